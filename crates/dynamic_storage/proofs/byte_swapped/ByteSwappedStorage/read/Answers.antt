@@ -1,0 +1,10 @@
+use Rattle.dynamic_storage.specs.Bytes.{reversed}
+use Rattle.dynamic_storage.proofs.Swapped.{read-some, read-none}
+use Rattle.dynamic_storage.proofs.byte_swapped.ByteSwappedStorage.read.Needs as need
+
+pub returns-in-Some : need.returns-in-Some
+unfolding reversed
+returns-in-Some g c = read-some _ _ _ _ (c .in-Some .ensures tt) (c .swap-bytes .ensures)
+
+pub returns-in-None : need.returns-in-None
+returns-in-None g c = read-none _ _ (c .in-None .ensures tt)

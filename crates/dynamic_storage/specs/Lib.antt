@@ -1,0 +1,4 @@
+pub mod Meaning
+pub mod Codes
+pub mod Bytes
+pub mod Layers
