@@ -3,6 +3,7 @@ ghost use mathlib.Core.Path.{_≡_};
 ghost use mathlib.Core.List.{[], _∷_};
 ghost use lib.ListN.{length, getD, set, drop};
 ghost use denote.Ref.{now, name};
+ghost use Rattle.dynamic_storage.specs.Meaning.{inside};
 ghost use Rattle.dynamic_storage.specs.Codes.{statedAt, fixedCode};
 ghost use Rattle.dynamic_storage.specs.Bytes.{littleAt, Stored, wordsIn, oddBytes};
 use crate::Condition;
@@ -17,13 +18,6 @@ use crate::codes::is_settable;
 #[derive(Drop)]
 pub struct BorrowedBytes<'a> {
     memory: &'a mut [u8],
-}
-
-/// How many words there are in memory, the code with them.
-fn count(memory: &[u8]) -> usize
-    ensures { λ r. ⌜ r ≡ length (wordsIn (now (memory .entry))) ⌝ }
-{
-    memory.len() / 8
 }
 
 /// The number in the eight bytes from a place on.
@@ -75,6 +69,28 @@ impl<'a> BorrowedBytes<'a> {
     {
         BorrowedBytes { memory }
     }
+
+    /// How many words the memory holds, the code with them.
+    fn count(&self) -> usize
+        ensures { λ r. ⌜ r ≡ length (wordsIn (now (now (self .entry) .memory))) ⌝ }
+    {
+        self.memory.len() / 8
+    }
+
+    /// Replaces the code of the condition, whatever it states, and answers whether there is one. This is for tools that
+    /// spoil or mend memory: no part of a connection calls it.
+    pub fn write_code(&mut self, code: u64) -> bool
+        ensures answer { λ r. ⌜ r ≡ inside (wordsIn (now (now (self .entry) .memory))) 0 ⌝ }
+        ensures words { λ _. ⌜ wordsIn (now (now (self .exit) .memory)) ≡ set (wordsIn (now (now (self .entry) .memory))) 0 code ⌝ }
+        ensures odd { λ _. ⌜ oddBytes (now (now (self .exit) .memory)) ≡ oddBytes (now (now (self .entry) .memory)) ⌝ }
+        ensures lent { λ _. ⌜ name (now (self .exit) .memory) ≡ name (now (self .entry) .memory) ⌝ }
+    {
+        if self.count() == 0 {
+            return false;
+        }
+        store(self.memory, 0, code);
+        true
+    }
 }
 
 pub impl DynamicStorage for BorrowedBytes<'_> as BorrowedBytesStorage {
@@ -85,7 +101,7 @@ pub impl DynamicStorage for BorrowedBytes<'_> as BorrowedBytesStorage {
     ghost outside = { λ s. fixedCode (wordsIn (now (s .memory))) 0 ∷ oddBytes (now (s .memory)) ∷ (name (s .memory) ∷ []) ∷ [] };
 
     fn condition(&self) -> Condition {
-        if count(self.memory) == 0 {
+        if self.count() == 0 {
             Condition::Broken
         } else {
             decode(load(self.memory, 0))
@@ -93,7 +109,7 @@ pub impl DynamicStorage for BorrowedBytes<'_> as BorrowedBytesStorage {
     }
 
     fn len(&self) -> u64 {
-        let all = count(self.memory);
+        let all = self.count();
         if all == 0 { 0 } else { (all - 1) as u64 }
     }
 

@@ -1,7 +1,8 @@
 ghost use mathlib.Core.Path.{_≡_};
 ghost use mathlib.Core.List.{[], _∷_};
-ghost use lib.ListN.{drop};
+ghost use lib.ListN.{set, drop};
 ghost use denote.Ref.{now, name};
+ghost use Rattle.dynamic_storage.specs.Meaning.{inside};
 ghost use Rattle.dynamic_storage.specs.Codes.{statedAt, fixedCode};
 use crate::Condition;
 use crate::DynamicStorage;
@@ -22,6 +23,20 @@ impl<'a> BorrowedWords<'a> {
         ensures lent { λ r. ⌜ name (r .memory) ≡ name (memory .entry) ⌝ }
     {
         BorrowedWords { memory }
+    }
+
+    /// Replaces the code of the condition, whatever it states, and answers whether there is one. This is for tools that
+    /// spoil or mend memory: no part of a connection calls it.
+    pub fn write_code(&mut self, code: u64) -> bool
+        ensures answer { λ r. ⌜ r ≡ inside (now (now (self .entry) .memory)) 0 ⌝ }
+        ensures memory { λ _. ⌜ now (now (self .exit) .memory) ≡ set (now (now (self .entry) .memory)) 0 code ⌝ }
+        ensures lent { λ _. ⌜ name (now (self .exit) .memory) ≡ name (now (self .entry) .memory) ⌝ }
+    {
+        if self.memory.len() == 0 {
+            return false;
+        }
+        self.memory[0] = code;
+        true
     }
 }
 

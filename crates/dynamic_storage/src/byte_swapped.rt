@@ -18,6 +18,14 @@ impl<S: DynamicStorage> ByteSwapped<S> {
     {
         ByteSwapped { below }
     }
+
+    /// The storage below, with this layer taken away.
+    pub fn into_below(self) -> S
+        ensures { λ r. ⌜ r ≡ self .below ⌝ }
+    {
+        let ByteSwapped { below: storage } = self;
+        storage
+    }
 }
 
 pub impl<S: DynamicStorage> DynamicStorage for ByteSwapped<S> as ByteSwappedStorage {

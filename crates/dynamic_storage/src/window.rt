@@ -32,6 +32,18 @@ impl<S: DynamicStorage> Window<S> {
         }
     }
 
+    /// The storage below, with the window taken away.
+    pub fn into_below(self) -> S
+        ensures { λ r. ⌜ r ≡ self .below ⌝ }
+    {
+        let Window {
+            below,
+            place: _,
+            count: _,
+        } = self;
+        below
+    }
+
     /// Where the window's word at a place stands below, if there is one.
     fn place_below(&self, place: u64) -> Option<u64>
         ensures { λ r. ⌜ r ≡ framedAt (S·DynamicStorage .words (now (self .entry) .below)) (now (self .entry) .place) (now (self .entry) .count) place ⌝ }
