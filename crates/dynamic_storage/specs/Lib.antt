@@ -1,4 +1,2 @@
 pub mod Meaning
 pub mod Codes
-pub mod Bytes
-pub mod Layers

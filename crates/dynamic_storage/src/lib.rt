@@ -7,26 +7,11 @@ ghost use lib.ListN.{length, set};
 ghost use Rattle.dynamic_storage.specs.Meaning.{inside, wordAt, settable, afterAsking};
 ghost use Rattle.dynamic_storage.specs.declared.condition.Condition.{Condition};
 
-mod borrowed_bytes;
-mod borrowed_words;
-mod byte_swapped;
 mod codes;
 mod condition;
-mod process_local;
-mod window;
 
-pub use borrowed_bytes::BorrowedBytes;
-pub use borrowed_bytes::BorrowedBytesStorage;
-pub use borrowed_words::BorrowedWords;
-pub use borrowed_words::BorrowedWordsStorage;
-pub use byte_swapped::ByteSwapped;
-pub use byte_swapped::ByteSwappedStorage;
 pub use condition::Condition;
 pub use condition::Stage;
-pub use process_local::ProcessLocal;
-pub use process_local::ProcessLocalStorage;
-pub use window::Window;
-pub use window::WindowStorage;
 
 /// A condition and a list of words whose length never changes.
 ///

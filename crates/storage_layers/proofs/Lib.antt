@@ -1,0 +1,2 @@
+pub mod Swapped
+pub mod Windows
