@@ -11,7 +11,13 @@ mod codes;
 mod condition;
 
 pub use condition::Condition;
+pub use condition::ConditionDebug;
+pub use condition::ConditionEq;
+pub use condition::ConditionPartialEq;
 pub use condition::Stage;
+pub use condition::StageDebug;
+pub use condition::StageEq;
+pub use condition::StagePartialEq;
 
 /// A condition and a list of words whose length never changes.
 ///

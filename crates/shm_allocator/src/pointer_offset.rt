@@ -16,7 +16,8 @@ impl SegmentId {
     pub fn value(&self) -> u8
         ensures { λ r. ⌜ r ≡ now (self .entry) .0 ⌝ }
     {
-        self.0
+        let SegmentId(value) = *self;
+        value
     }
 
     /// The largest number that a segment can have.

@@ -12,7 +12,6 @@ use dynamic_storage::Stage;
 
 /// Borrowed bytes, eight to a word, the lowest first: the first word is the code of the condition, and the storage's
 /// words follow it. Odd bytes at the end belong to no word.
-#[derive(Drop)]
 pub struct BorrowedBytes<'a> {
     memory: &'a mut [u8],
 }
@@ -57,6 +56,15 @@ fn store(memory: &mut [u8], index: usize, word: u64)
     ensures odd { λ _. ⌜ oddBytes (now (memory .exit)) ≡ oddBytes (now (memory .entry)) ⌝ }
 {
     store_bytes(memory, 8 * index, word);
+}
+
+// The lender finds in its memory what the storage held last.
+impl Drop for BorrowedBytes<'_> {
+    fn drop(self)
+        ensures { λ _. ⌜ now (self .exit .0) ≡ now (self .entry .memory) ⌝ }
+    {
+        let BorrowedBytes { memory: _ } = self;
+    }
 }
 
 impl<'a> BorrowedBytes<'a> {

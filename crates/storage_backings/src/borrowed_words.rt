@@ -9,9 +9,17 @@ use dynamic_storage::DynamicStorage;
 use dynamic_storage::Stage;
 
 /// Borrowed words: the first is the code of the condition, and the storage's words follow it.
-#[derive(Drop)]
 pub struct BorrowedWords<'a> {
     memory: &'a mut [u64],
+}
+
+// The lender finds in its memory what the storage held last.
+impl Drop for BorrowedWords<'_> {
+    fn drop(self)
+        ensures { λ _. ⌜ now (self .exit .0) ≡ now (self .entry .memory) ⌝ }
+    {
+        let BorrowedWords { memory: _ } = self;
+    }
 }
 
 impl<'a> BorrowedWords<'a> {
