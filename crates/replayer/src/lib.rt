@@ -6,7 +6,6 @@ mod error;
 mod layers;
 mod replaying;
 
-pub use built_in::story;
 pub use error::ReplayError;
 pub use replaying::replay;
 pub use replaying::replay_input;

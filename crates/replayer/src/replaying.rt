@@ -6,7 +6,8 @@ use crate::backing::SpoiledLocal;
 use crate::backing::SpoiledWords;
 use crate::built_in::story;
 use crate::error::ReplayError;
-use crate::layers::step;
+use crate::layers::Step;
+use crate::layers::take_step;
 use script::call::Backing;
 use script::call::Call;
 use script::call::Expected;
@@ -14,6 +15,7 @@ use script::call::Pile;
 use script::scripts::Script;
 use script::scripts::ScriptError;
 use script::scripts::parse_script;
+use session::Session;
 use std::error::AnyError;
 use std::io;
 use std::io::Read;
@@ -69,6 +71,9 @@ fn described(expected: Expected) -> &'static str {
         Expected::Stage => "absent, forming or ready",
         Expected::Backing => "words N, bytes N or inner",
         Expected::Layer => "window A N or swapped, each at most once and in order",
+        Expected::Overflow => "0 or 1",
+        Expected::State => "a number below 2^64 or closed",
+        Expected::Port => "sender or receiver",
         Expected::End => "the end of the line",
         Expected::StorageFirst => "storage on the first line only",
         Expected::CodeNeedsMemory => "code over words or bytes only",
@@ -106,14 +111,28 @@ fn run_over<B: Spoiled + Drop>(
     pile: &Pile,
     calls: &[Call],
 ) -> io::Result<()> {
+    let mut session = Session::new();
+    let end = run_calls(rt, &mut session, backing, pile, calls);
+    session.abandon();
+    end
+}
+
+fn run_calls<B: Spoiled + Drop>(
+    rt: &LibcRuntime,
+    session: &mut Session,
+    backing: B,
+    pile: &Pile,
+    calls: &[Call],
+) -> io::Result<()> {
     let mut backing = backing;
     for call in calls {
         if let Call::Code(code) = *call {
             let written = backing.spoil(code);
             println!(rt, "{}", if written { "yes" } else { "no" })?;
         } else {
-            backing = step(rt, backing, pile, *call)?;
+            backing = take_step(rt, session, backing, pile, Step::Call(*call))?;
         }
     }
+    let _ = take_step(rt, session, backing, pile, Step::End)?;
     Ok(())
 }

@@ -4,9 +4,13 @@ use mathlib.Core.Path.{_≡_, refl}
 use mathlib.Core.List.{List}
 use Rattle.std.specs.declared.result.Result.the-variants.{Err}
 use Rattle.script.specs.declared.call.Expected.the-variants as expected
-use Rattle.script.specs.Grammar.{byTable, addressLines, addressCall, conditionLines, conditionCall}
+use Rattle.script.specs.Grammar.{byTable, portLines, portCall, addressLines, addressCall, conditionLines, conditionCall}
 
-pub addressCall-is : (k : List ℕ) (ws : List (List ℕ)) → byTable addressLines k (λ _. Err expected.Keyword) ws ≡ addressCall k ws
+pub portCall-is : (k : List ℕ) (ws : List (List ℕ)) → byTable portLines k (λ _. Err expected.Keyword) ws ≡ portCall k ws
+unfolding portCall
+portCall-is k ws = refl
+
+pub addressCall-is : (k : List ℕ) (ws : List (List ℕ)) → byTable addressLines k (portCall k) ws ≡ addressCall k ws
 unfolding addressCall
 addressCall-is k ws = refl
 

@@ -3,7 +3,7 @@ use Prim.Native.String.{String}
 use mathlib.Core.Bool.{Bool, true, false, cond}
 use mathlib.Core.List.{List, [], _∷_}
 use lib.Chars.{codes}
-use lib.Dec.{ltb}
+use lib.Dec.{eqb, ltb}
 use Rattle.std.specs.shelf.Text.{sameBytes}
 use Rattle.std.specs.Options.{isSome}
 use Rattle.std.specs.declared.option.Option.{Option}
@@ -12,10 +12,15 @@ use Rattle.std.specs.declared.result.Result.{Result}
 use Rattle.std.specs.declared.result.Result.the-variants.{Ok, Err}
 use Rattle.dynamic_storage.specs.declared.Stage.{Stage}
 use Rattle.dynamic_storage.specs.declared.Stage.the-variants as stages
+use Rattle.connection_ports.specs.declared.port.Port.{Port}
+use Rattle.connection_ports.specs.declared.port.Port.the-variants as ports
+use Rattle.connection_words.specs.declared.settings.Settings.{Settings}
 use Rattle.script.specs.declared.call.Backing.{Backing}
 use Rattle.script.specs.declared.call.Backing.the-variants as backings
 use Rattle.script.specs.declared.call.Frame.{Frame}
 use Rattle.script.specs.declared.call.Pile.{Pile}
+use Rattle.script.specs.declared.call.StateWord.{StateWord}
+use Rattle.script.specs.declared.call.StateWord.the-variants as states
 use Rattle.script.specs.declared.call.Call.{Call}
 use Rattle.script.specs.declared.call.Call.the-variants as calls
 use Rattle.script.specs.declared.call.Line.{Line}
@@ -73,6 +78,46 @@ segment ws = word expected.Segment (λ w. segmentIn (numberOf w)) ws
 abbrev pub stageOf : List ℕ → Result Stage Expected
 stageOf w = cond (is w "absent") (Ok stages.Absent) (cond (is w "forming") (Ok stages.Forming) (cond (is w "ready") (Ok stages.Ready) (Err expected.Stage)))
 
+-- the port that a word names
+abbrev pub portOf : List ℕ → Result Port Expected
+portOf w = cond (is w "sender") (Ok ports.Sender) (cond (is w "receiver") (Ok ports.Receiver) (Err expected.Port))
+
+-- a number as a state
+abbrev pub stateIn : Option ℕ → Result StateWord Expected
+stateIn None = Err expected.State
+stateIn (Some n) = Ok (states.Number n)
+
+-- the state that a word writes: `closed` or a number
+abbrev pub stateOf : List ℕ → Result StateWord Expected
+stateOf w = cond (is w "closed") (Ok states.Closed) (stateIn (numberOf w))
+
+-- 0 or 1
+abbrev pub overflowIn : Option ℕ → Result Bool Expected
+overflowIn None = Err expected.Overflow
+overflowIn (Some n) = cond (eqb n 0) (Ok false) (cond (eqb n 1) (Ok true) (Err expected.Overflow))
+
+-- whether a full queue gives way
+abbrev pub overflow : Reader Bool
+overflow ws = word expected.Overflow (λ w. overflowIn (numberOf w)) ws
+
+-- the settings by their first five numbers and the overflow
+abbrev pub settingsOf : ℕ → ℕ → ℕ → ℕ → ℕ → Bool → Settings
+settingsOf b m n s c o =
+    record {
+      «buffer_size» = b;
+      «max_borrowed_samples_per_channel» = m;
+      «number_of_samples_per_segment» = n;
+      «number_of_segments» = s;
+      «number_of_channels» = c;
+      «enable_safe_overflow» = o;
+    }
+
+-- the settings of a connection: five numbers and the overflow
+abbrev pub settings : Reader Settings
+settings ws =
+    then (number ws) (λ b. then (number (b .1)) (λ m. then (number (m .1)) (λ n. then (number (n .1)) (λ s. then (number (s .1)) (λ c.
+    then (overflow (c .1)) (λ o. Ok (settingsOf (b .0) (m .0) (n .0) (s .0) (c .0) (o .0), o .1)))))))
+
 -- one number, and no more
 abbrev pub one : (ℕ → Call) → Rest Call
 one f ws = then (number ws) (λ p. alone (f (p .0)) (p .1))
@@ -88,6 +133,14 @@ numberAndSegment f ws = then (number ws) (λ p. then (segment (p .1)) (λ q. alo
 -- a stage
 abbrev pub oneStage : (Stage → Call) → Rest Call
 oneStage f ws = then (word expected.Stage stageOf ws) (λ p. alone (f (p .0)) (p .1))
+
+-- a port
+abbrev pub onePort : (Port → Call) → Rest Call
+onePort f ws = then (word expected.Port portOf ws) (λ p. alone (f (p .0)) (p .1))
+
+-- settings and a state
+abbrev pub settingsAndState : (Settings → StateWord → Call) → Rest Call
+settingsAndState f ws = then (settings ws) (λ p. then (word expected.State stateOf (p .1)) (λ q. alone (f (p .0) (q .0)) (q .1)))
 
 -- keywords, each with what follows it on its line
 abbrev pub Table : Type 0
@@ -117,14 +170,27 @@ addressLines =
     ∷ ("value", numberAndSegment calls.Value)
     ∷ []
 
+-- the lines on the ports of a connection
+abbrev pub portLines : Table
+portLines =
+    ("settings", settingsAndState calls.Settings)
+    ∷ ("create", onePort calls.Create)
+    ∷ ("close", onePort calls.Close)
+    ∷ ("counters", alone calls.Counters)
+    ∷ []
+
 -- the rest of a line by the row of its keyword k, or else by what other says
 abbrev pub byTable : Table → List ℕ → Rest Call → Rest Call
 byTable [] k other ws = other ws
 byTable (row ∷ rows) k other ws = cond (is k (row .0)) (row .1 ws) (byTable rows k other ws)
 
--- the lines on addresses; no other keyword is known. Shut, so that a proof has one table before it
+-- the lines on ports; no other keyword is known. Shut, so that a proof has one table before it
+unfoldable pub portCall : List ℕ → Rest Call
+portCall k ws = byTable portLines k (λ _. Err expected.Keyword) ws
+
+-- the lines on addresses, and those after them
 unfoldable pub addressCall : List ℕ → Rest Call
-addressCall k ws = byTable addressLines k (λ _. Err expected.Keyword) ws
+addressCall k ws = byTable addressLines k (portCall k) ws
 
 -- the lines on the condition, and those after them
 unfoldable pub conditionCall : List ℕ → Rest Call

@@ -1,3 +1,5 @@
+use connection_ports::Port;
+use connection_words::Settings;
 use dynamic_storage::Stage;
 
 /// What holds the words of a storage.
@@ -24,6 +26,13 @@ pub struct Pile {
     pub upper: Option<Frame>,
 }
 
+/// The word of a state, as a line writes it.
+#[derive(Clone, Copy)]
+pub enum StateWord {
+    Number(u64),
+    Closed,
+}
+
 /// A call that a line asks for.
 #[derive(Clone, Copy)]
 pub enum Call {
@@ -36,6 +45,10 @@ pub enum Call {
     Code(u64),
     Offset(u64),
     Value(u64, u8),
+    Settings(Settings, StateWord),
+    Create(Port),
+    Close(Port),
+    Counters,
 }
 
 /// What a line says.
@@ -55,6 +68,9 @@ pub enum Expected {
     Stage,
     Backing,
     Layer,
+    Overflow,
+    State,
+    Port,
     End,
     StorageFirst,
     CodeNeedsMemory,

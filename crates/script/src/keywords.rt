@@ -1,5 +1,5 @@
 ghost use mathlib.Core.Path.{_≡_};
-ghost use Rattle.script.specs.Grammar.{call, byTable, conditionLines, addressLines, addressCall};
+ghost use Rattle.script.specs.Grammar.{call, byTable, conditionLines, addressLines, portLines, addressCall, portCall};
 ghost use Rattle.std.specs.declared.result.Result.the-variants.{Err};
 ghost use Rattle.script.specs.Cursor.{ahead};
 use crate::arguments::alone;
@@ -8,6 +8,9 @@ use crate::arguments::next_segment;
 use crate::arguments::next_stage;
 use crate::call::Call;
 use crate::call::Expected;
+use crate::ports::next_port;
+use crate::ports::next_settings;
+use crate::ports::next_state;
 use crate::words::Words;
 use crate::words::is;
 
@@ -53,7 +56,7 @@ fn condition_call(keyword: &[u8], words: &mut Words<'_>) -> Result<Call, Expecte
 
 // The call of a line on an address.
 fn address_call(keyword: &[u8], words: &mut Words<'_>) -> Result<Call, Expected>
-    ensures { λ r. ⌜ r ≡ byTable addressLines (now (keyword .entry)) (λ _. Err Expected.Keyword) (ahead (now (words .entry))) ⌝ }
+    ensures { λ r. ⌜ r ≡ byTable addressLines (now (keyword .entry)) (portCall (now (keyword .entry))) (ahead (now (words .entry))) ⌝ }
 {
     if is(keyword, "offset") {
         let value = next_number(words)?;
@@ -63,6 +66,29 @@ fn address_call(keyword: &[u8], words: &mut Words<'_>) -> Result<Call, Expected>
         let offset = next_number(words)?;
         let segment = next_segment(words)?;
         return alone(words, Call::Value(offset, segment));
+    }
+    port_call(keyword, words)
+}
+
+// The call of a line on the ports of a connection.
+fn port_call(keyword: &[u8], words: &mut Words<'_>) -> Result<Call, Expected>
+    ensures { λ r. ⌜ r ≡ byTable portLines (now (keyword .entry)) (λ _. Err Expected.Keyword) (ahead (now (words .entry))) ⌝ }
+{
+    if is(keyword, "settings") {
+        let settings = next_settings(words)?;
+        let state = next_state(words)?;
+        return alone(words, Call::Settings(settings, state));
+    }
+    if is(keyword, "create") {
+        let port = next_port(words)?;
+        return alone(words, Call::Create(port));
+    }
+    if is(keyword, "close") {
+        let port = next_port(words)?;
+        return alone(words, Call::Close(port));
+    }
+    if is(keyword, "counters") {
+        return alone(words, Call::Counters);
     }
     Err(Expected::Keyword)
 }

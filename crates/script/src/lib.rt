@@ -5,5 +5,6 @@ mod keywords;
 mod layers;
 mod lines;
 pub mod parsing;
+mod ports;
 pub mod scripts;
 mod words;

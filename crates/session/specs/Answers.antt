@@ -1,4 +1,4 @@
--- What the calls of a script answer and leave.
+-- What the calls of a script on the storage alone answer and leave.
 use Prim.Native.Nat.{ℕ}
 use mathlib.Core.Bool.{Bool, true, false, cond}
 use mathlib.Core.List.{List}
@@ -32,6 +32,10 @@ answered (call.SetCondition to) condition words = yesOrNo (settable condition)
 answered (call.Code code) condition words = answer.No
 answered (call.Offset value) condition words = answer.Place (segmentOf value) (offsetOf value)
 answered (call.Value offset segment) condition words = answer.Value (valueOf offset segment)
+answered (call.Settings settings state) condition words = answer.No
+answered (call.Create port) condition words = answer.No
+answered (call.Close port) condition words = answer.No
+answered call.Counters condition words = answer.No
 
 -- the words after a call
 abbrev pub wordsAfter : Call → List ℕ → List ℕ
@@ -44,6 +48,10 @@ wordsAfter (call.SetCondition to) words = words
 wordsAfter (call.Code code) words = words
 wordsAfter (call.Offset value) words = words
 wordsAfter (call.Value offset segment) words = words
+wordsAfter (call.Settings settings state) words = words
+wordsAfter (call.Create port) words = words
+wordsAfter (call.Close port) words = words
+wordsAfter call.Counters words = words
 
 -- the condition after a call
 abbrev pub conditionAfter : Call → Condition → Condition
@@ -56,3 +64,7 @@ conditionAfter (call.SetCondition to) condition = afterAsking condition to
 conditionAfter (call.Code code) condition = condition
 conditionAfter (call.Offset value) condition = condition
 conditionAfter (call.Value offset segment) condition = condition
+conditionAfter (call.Settings settings state) condition = condition
+conditionAfter (call.Create port) condition = condition
+conditionAfter (call.Close port) condition = condition
+conditionAfter call.Counters condition = condition

@@ -15,6 +15,15 @@ pub enum Answer {
     Place { segment: u8, offset: u64 },
     /// All words, which whoever prints the answer reads off the storage.
     List,
+    Ok,
+    /// The port state that a close leaves.
+    State(u64),
+    /// A refusal by its number.
+    Refused(u64),
+    /// The script holds no such port.
+    NoPort,
+    /// The borrow counters, which whoever prints the answer reads off the session.
+    Counters,
 }
 
 pub impl fmt::Display for Answer as AnswerDisplay {
@@ -27,7 +36,11 @@ pub impl fmt::Display for Answer as AnswerDisplay {
             Answer::Count(count) => write!(f, "count {count}"),
             Answer::Shows(condition) => write!(f, "{}", name(*condition)),
             Answer::Place { segment, offset } => write!(f, "segment {segment} offset {offset}"),
-            Answer::List => write!(f, "list"),
+            Answer::List | Answer::Counters => write!(f, "list"),
+            Answer::Ok => write!(f, "ok"),
+            Answer::State(state) => write!(f, "state {state}"),
+            Answer::Refused(number) => write!(f, "refused {number} {}", answers::name(*number)),
+            Answer::NoPort => write!(f, "noport"),
         }
     }
 }

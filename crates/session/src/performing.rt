@@ -17,8 +17,9 @@ fn yes_or_no(yes: bool) -> Answer
     if yes { Answer::Yes } else { Answer::No }
 }
 
-/// Performs one call over a storage. A `Code` is for the backing below it, so here it answers no.
-pub fn perform<S: DynamicStorage>(storage: &mut S, call: Call) -> Answer
+/// Performs a call on the storage alone. A `Code` is for the backing below it and a call on a port for a session, so here
+/// they answer no.
+pub fn perform_on<S: DynamicStorage>(storage: &mut S, call: Call) -> Answer
     ensures answer { λ r. ⌜ r ≡ answered call (S·DynamicStorage .condition (now (storage .entry))) (S·DynamicStorage .words (now (storage .entry))) ⌝ }
     ensures words { λ _. ⌜ S·DynamicStorage .words (now (storage .exit)) ≡ wordsAfter call (S·DynamicStorage .words (now (storage .entry))) ⌝ }
     ensures condition { λ _. ⌜ S·DynamicStorage .condition (now (storage .exit)) ≡ conditionAfter call (S·DynamicStorage .condition (now (storage .entry))) ⌝ }
@@ -34,7 +35,8 @@ pub fn perform<S: DynamicStorage>(storage: &mut S, call: Call) -> Answer
         },
         Call::Write(place, word) => yes_or_no(storage.write(place, word)),
         Call::SetCondition(to) => yes_or_no(storage.set_condition(to)),
-        Call::Code(_) => Answer::No,
+        Call::Code(_) | Call::Settings(_, _) | Call::Create(_) | Call::Close(_) | Call::Counters =>
+            Answer::No,
         Call::Offset(value) => {
             let (segment, offset) = PointerOffset::from_value(value).parts();
             Answer::Place { segment, offset }

@@ -1,0 +1,16 @@
+ghost use Rattle.connection_words.specs.Laws.{Places-apart, QueueOrder, Sizes};
+
+/// The parts of a connection do not meet, and all lie within its words.
+pub fn places_apart()
+    ensures { λ _. ⌜ Places-apart ⌝ }
+{}
+
+/// A push appends to the entries of a queue, a pop takes the first, and neither touches another place.
+pub fn queue_order()
+    ensures { λ _. ⌜ QueueOrder ⌝ }
+{}
+
+/// How many words a small connection needs, and how many the largest.
+pub fn small_connection()
+    ensures { λ _. ⌜ Sizes ⌝ }
+{}
