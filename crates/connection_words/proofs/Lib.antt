@@ -1,3 +1,4 @@
 pub mod Bounds
 pub mod Apart
 pub mod Order
+pub mod Others

@@ -8,7 +8,7 @@ use lib.ListN.{length, getD}
 use Rattle.connection_words.specs.declared.settings.Settings.{Settings}
 use Rattle.connection_words.specs.declared.ring.Ring.{Ring}
 use Rattle.connection_words.specs.Settings.{Limits, segments, samples, channels, completions}
-use Rattle.connection_words.specs.Places.{stride, channelAt, detailAt, needed, submissionOf, completionOf, sizeAt, markAt}
+use Rattle.connection_words.specs.Places.{stride, channelAt, detailAt, needed, submissionOf, completionOf, stateAt, sizeAt, markAt}
 use Rattle.connection_words.specs.Queues.{entry, entries, count, queueSound, pushed, popped, hasRoom, hasEntry, Belongs, Placed}
 
 -- the two queues of a channel
@@ -57,6 +57,24 @@ pub record QueueOrder : Type 0 where
   pub pop-only : (words : List ℕ) (q : Ring) (p : ℕ) → Placed q → (Belongs q p → ⊥) → getD (popped words q) p 0 ≡ getD words p 0
   pub entries-depend : (words others : List ℕ) (q : Ring) → Placed q → ((p : ℕ) → Belongs q p → getD others p 0 ≡ getD words p 0) → entries others q ≡ entries words q
   pub entries-number : (words : List ℕ) (q : Ring) → length (entries words q) ≡ count words q
+
+-- words that have the same word at a place
+abbrev pub SameAt : List ℕ → List ℕ → ℕ → Type 0
+SameAt others words place = getD others place 0 ≡ getD words place 0
+
+-- what a push to, or a pop from, the queue on side x of channel c leaves of the connection: the entries of every other
+-- queue, the header, every channel's state, every size and every mark
+pub record OthersStay (s : Settings) (words others : List ℕ) (x : Side) (c : ℕ) : Type 0 where
+  pub entries-stay : (y : Side) (d : ℕ) → d < channels s → (x ≢ y) ⊎ (c ≢ d) → entries others (queueOf s y d) ≡ entries words (queueOf s y d)
+  pub header-stays : (p : ℕ) → p < 8 → SameAt others words p
+  pub states-stay : (d : ℕ) → SameAt others words (stateAt s d)
+  pub sizes-stay : (d g : ℕ) → SameAt others words (sizeAt s d g)
+  pub marks-stay : (d g i : ℕ) → SameAt others words (markAt s d g i)
+
+abbrev pub Others-stay : Type 0
+Others-stay =
+    (s : Settings) → Limits s → (words : List ℕ) (x : Side) (c v : ℕ) → c < channels s
+    → OthersStay s words (pushed words (queueOf s x c) v) x c × OthersStay s words (popped words (queueOf s x c)) x c
 
 -- settings by their numbers: buffer, borrowed, samples, segments, channels; and the overflow
 abbrev pub settingsWith : ℕ → ℕ → ℕ → ℕ → ℕ → Bool → Settings

@@ -13,6 +13,7 @@ mod used_chunk_list;
 mod words;
 
 pub use channel::Channel;
+pub use laws::others_stay;
 pub use laws::places_apart;
 pub use laws::queue_order;
 pub use laws::small_connection;

@@ -142,6 +142,14 @@ onePort f ws = then (word expected.Port portOf ws) (λ p. alone (f (p .0)) (p .1
 abbrev pub settingsAndState : (Settings → StateWord → Call) → Rest Call
 settingsAndState f ws = then (settings ws) (λ p. then (word expected.State stateOf (p .1)) (λ q. alone (f (p .0) (q .0)) (q .1)))
 
+-- a value sent: an offset, a segment, a size and a channel
+abbrev pub sent : Rest Call
+sent ws = then (number ws) (λ p. then (segment (p .1)) (λ q. two (calls.Send (p .0) (q .0)) (q .1)))
+
+-- a value given back: an offset, a segment and a channel
+abbrev pub released : Rest Call
+released ws = then (number ws) (λ p. then (segment (p .1)) (λ q. one (calls.Release (p .0) (q .0)) (q .1)))
+
 -- keywords, each with what follows it on its line
 abbrev pub Table : Type 0
 Table = List (String × Rest Call)
@@ -179,14 +187,29 @@ portLines =
     ∷ ("counters", alone calls.Counters)
     ∷ []
 
+-- the lines on the values that go through a connection
+abbrev pub transferLines : Table
+transferLines =
+    ("send", sent)
+    ∷ ("receive", one calls.Receive)
+    ∷ ("release", released)
+    ∷ ("reclaim", one calls.Reclaim)
+    ∷ ("has_data", one calls.HasData)
+    ∷ ("borrow_count", one calls.BorrowCount)
+    ∷ []
+
 -- the rest of a line by the row of its keyword k, or else by what other says
 abbrev pub byTable : Table → List ℕ → Rest Call → Rest Call
 byTable [] k other ws = other ws
 byTable (row ∷ rows) k other ws = cond (is k (row .0)) (row .1 ws) (byTable rows k other ws)
 
--- the lines on ports; no other keyword is known. Shut, so that a proof has one table before it
+-- the lines on values; no other keyword is known. Shut, so that a proof has one table before it
+unfoldable pub transferCall : List ℕ → Rest Call
+transferCall k ws = byTable transferLines k (λ _. Err expected.Keyword) ws
+
+-- the lines on ports, and those after them
 unfoldable pub portCall : List ℕ → Rest Call
-portCall k ws = byTable portLines k (λ _. Err expected.Keyword) ws
+portCall k ws = byTable portLines k (transferCall k) ws
 
 -- the lines on addresses, and those after them
 unfoldable pub addressCall : List ℕ → Rest Call

@@ -49,6 +49,17 @@ pub enum Call {
     Create(Port),
     Close(Port),
     Counters,
+    Send {
+        offset: u64,
+        segment: u8,
+        size: u64,
+        channel: u64,
+    },
+    Receive(u64),
+    Release(u64, u8, u64),
+    Reclaim(u64),
+    HasData(u64),
+    BorrowCount(u64),
 }
 
 /// What a line says.

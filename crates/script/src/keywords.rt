@@ -1,6 +1,5 @@
 ghost use mathlib.Core.Path.{_≡_};
-ghost use Rattle.script.specs.Grammar.{call, byTable, conditionLines, addressLines, portLines, addressCall, portCall};
-ghost use Rattle.std.specs.declared.result.Result.the-variants.{Err};
+ghost use Rattle.script.specs.Grammar.{call, byTable, conditionLines, addressLines, portLines, addressCall, portCall, transferCall};
 ghost use Rattle.script.specs.Cursor.{ahead};
 use crate::arguments::alone;
 use crate::arguments::next_number;
@@ -11,6 +10,7 @@ use crate::call::Expected;
 use crate::ports::next_port;
 use crate::ports::next_settings;
 use crate::ports::next_state;
+use crate::transfers::transfer_call;
 use crate::words::Words;
 use crate::words::is;
 
@@ -72,7 +72,7 @@ fn address_call(keyword: &[u8], words: &mut Words<'_>) -> Result<Call, Expected>
 
 // The call of a line on the ports of a connection.
 fn port_call(keyword: &[u8], words: &mut Words<'_>) -> Result<Call, Expected>
-    ensures { λ r. ⌜ r ≡ byTable portLines (now (keyword .entry)) (λ _. Err Expected.Keyword) (ahead (now (words .entry))) ⌝ }
+    ensures { λ r. ⌜ r ≡ byTable portLines (now (keyword .entry)) (transferCall (now (keyword .entry))) (ahead (now (words .entry))) ⌝ }
 {
     if is(keyword, "settings") {
         let settings = next_settings(words)?;
@@ -90,5 +90,5 @@ fn port_call(keyword: &[u8], words: &mut Words<'_>) -> Result<Call, Expected>
     if is(keyword, "counters") {
         return alone(words, Call::Counters);
     }
-    Err(Expected::Keyword)
+    transfer_call(keyword, words)
 }

@@ -7,4 +7,5 @@ mod lines;
 pub mod parsing;
 mod ports;
 pub mod scripts;
+mod transfers;
 mod words;

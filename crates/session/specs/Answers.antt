@@ -36,6 +36,12 @@ answered (call.Settings settings state) condition words = answer.No
 answered (call.Create port) condition words = answer.No
 answered (call.Close port) condition words = answer.No
 answered call.Counters condition words = answer.No
+answered (call.Send offset segment size channel) condition words = answer.No
+answered (call.Receive channel) condition words = answer.No
+answered (call.Release offset segment channel) condition words = answer.No
+answered (call.Reclaim channel) condition words = answer.No
+answered (call.HasData channel) condition words = answer.No
+answered (call.BorrowCount channel) condition words = answer.No
 
 -- the words after a call
 abbrev pub wordsAfter : Call → List ℕ → List ℕ
@@ -52,6 +58,12 @@ wordsAfter (call.Settings settings state) words = words
 wordsAfter (call.Create port) words = words
 wordsAfter (call.Close port) words = words
 wordsAfter call.Counters words = words
+wordsAfter (call.Send offset segment size channel) words = words
+wordsAfter (call.Receive channel) words = words
+wordsAfter (call.Release offset segment channel) words = words
+wordsAfter (call.Reclaim channel) words = words
+wordsAfter (call.HasData channel) words = words
+wordsAfter (call.BorrowCount channel) words = words
 
 -- the condition after a call
 abbrev pub conditionAfter : Call → Condition → Condition
@@ -68,3 +80,9 @@ conditionAfter (call.Settings settings state) condition = condition
 conditionAfter (call.Create port) condition = condition
 conditionAfter (call.Close port) condition = condition
 conditionAfter call.Counters condition = condition
+conditionAfter (call.Send offset segment size channel) condition = condition
+conditionAfter (call.Receive channel) condition = condition
+conditionAfter (call.Release offset segment channel) condition = condition
+conditionAfter (call.Reclaim channel) condition = condition
+conditionAfter (call.HasData channel) condition = condition
+conditionAfter (call.BorrowCount channel) condition = condition

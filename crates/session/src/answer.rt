@@ -16,6 +16,8 @@ pub enum Answer {
     /// All words, which whoever prints the answer reads off the storage.
     List,
     Ok,
+    /// A value was sent, and this one left the buffer for it.
+    Evicted(u64),
     /// The port state that a close leaves.
     State(u64),
     /// A refusal by its number.
@@ -38,6 +40,7 @@ pub impl fmt::Display for Answer as AnswerDisplay {
             Answer::Place { segment, offset } => write!(f, "segment {segment} offset {offset}"),
             Answer::List | Answer::Counters => write!(f, "list"),
             Answer::Ok => write!(f, "ok"),
+            Answer::Evicted(value) => write!(f, "evicted {value}"),
             Answer::State(state) => write!(f, "state {state}"),
             Answer::Refused(number) => write!(f, "refused {number} {}", answers::name(*number)),
             Answer::NoPort => write!(f, "noport"),

@@ -1,6 +1,7 @@
 ghost use mathlib.Core.Path.{_≡_};
 use crate::Answer;
 use crate::performing::perform_on;
+use crate::performing::yes_or_no;
 use connection_ports::BorrowCounters;
 use connection_ports::ChannelState;
 use connection_ports::Port;
@@ -12,8 +13,16 @@ use connection_words::Settings;
 use dynamic_storage::DynamicStorage;
 use script::call::Call;
 use script::call::StateWord;
+use shm_allocator::PointerOffset;
+use shm_allocator::SegmentId;
 use storage_backings::ProcessLocal;
 use storage_backings::ProcessLocalStorage;
+use zero_copy_connection::borrow_count;
+use zero_copy_connection::has_data;
+use zero_copy_connection::receive;
+use zero_copy_connection::reclaim;
+use zero_copy_connection::release;
+use zero_copy_connection::try_send;
 
 /// What a script holds between its calls: the settings for creations, the ports it created and the counters.
 pub struct Session {
@@ -34,6 +43,13 @@ fn retire(token: PortToken) {
 fn hold(slot: &mut Option<PortToken>, token: PortToken) {
     if let Some(old) = slot.replace(token) {
         retire(old);
+    }
+}
+
+fn value_or_none(value: Option<u64>) -> Answer {
+    match value {
+        Some(value) => Answer::Value(value),
+        None => Answer::None,
     }
 }
 
@@ -68,7 +84,77 @@ impl Session {
                 Some(_) => Answer::Counters,
                 None => Answer::NoPort,
             },
+            Call::Send { .. } | Call::Reclaim(_) => self.send_or_reclaim(storage, call),
+            Call::Receive(_) | Call::Release(_, _, _) | Call::HasData(_) | Call::BorrowCount(_) => {
+                self.receive_or_release(storage, call)
+            }
             _ => perform_on(storage, call),
+        }
+    }
+
+    /// The calls of a sender.
+    fn send_or_reclaim<S: DynamicStorage>(&mut self, storage: &mut S, call: Call) -> Answer
+        ensures { λ _. ⌜ S·DynamicStorage .outside (now (storage .exit)) ≡ S·DynamicStorage .outside (now (storage .entry)) ⌝ }
+    {
+        if self.sender.is_none() {
+            return Answer::NoPort;
+        }
+        match call {
+            Call::Send {
+                offset,
+                segment,
+                size,
+                channel,
+            } => {
+                let value = PointerOffset::from_offset_and_segment_id(
+                    offset,
+                    SegmentId::new(segment),
+                );
+                match try_send(storage, value, size, channel) {
+                    Ok(None) => Answer::Ok,
+                    Ok(Some(evicted)) => Answer::Evicted(evicted),
+                    Err(error) => Answer::Refused(error.number()),
+                }
+            }
+            Call::Reclaim(channel) => match reclaim(storage, channel) {
+                Ok(value) => value_or_none(value),
+                Err(error) => Answer::Refused(error.number()),
+            },
+            _ => Answer::NoPort,
+        }
+    }
+
+    /// The calls of a receiver.
+    fn receive_or_release<S: DynamicStorage>(&mut self, storage: &mut S, call: Call) -> Answer
+        ensures { λ _. ⌜ S·DynamicStorage .outside (now (storage .exit)) ≡ S·DynamicStorage .outside (now (storage .entry)) ⌝ }
+    {
+        if self.receiver.is_none() {
+            return Answer::NoPort;
+        }
+        match call {
+            Call::Receive(channel) => match receive(storage, &mut self.counters, channel) {
+                Ok(value) => value_or_none(value),
+                Err(error) => Answer::Refused(error.number()),
+            },
+            Call::Release(offset, segment, channel) => {
+                let value = PointerOffset::from_offset_and_segment_id(
+                    offset,
+                    SegmentId::new(segment),
+                );
+                match release(storage, &mut self.counters, value, channel) {
+                    Ok(()) => Answer::Ok,
+                    Err(error) => Answer::Refused(error.number()),
+                }
+            }
+            Call::HasData(channel) => match has_data(storage, channel) {
+                Ok(data) => yes_or_no(data),
+                Err(error) => Answer::Refused(error.number()),
+            },
+            Call::BorrowCount(channel) => match borrow_count(storage, &self.counters, channel) {
+                Ok(count) => Answer::Count(count),
+                Err(error) => Answer::Refused(error.number()),
+            },
+            _ => Answer::NoPort,
         }
     }
 

@@ -11,14 +11,14 @@ use shm_allocator::SegmentId;
 use std::alloc::AllocError;
 use std::alloc::Global;
 
-fn yes_or_no(yes: bool) -> Answer
+pub(crate) fn yes_or_no(yes: bool) -> Answer
     ensures { λ r. ⌜ r ≡ yesOrNo yes ⌝ }
 {
     if yes { Answer::Yes } else { Answer::No }
 }
 
-/// Performs a call on the storage alone. A `Code` is for the backing below it and a call on a port for a session, so here
-/// they answer no.
+/// Performs a call on the storage alone. A `Code` is for the backing below it and a call on a port or a channel for a
+/// session, so here they answer no.
 pub fn perform_on<S: DynamicStorage>(storage: &mut S, call: Call) -> Answer
     ensures answer { λ r. ⌜ r ≡ answered call (S·DynamicStorage .condition (now (storage .entry))) (S·DynamicStorage .words (now (storage .entry))) ⌝ }
     ensures words { λ _. ⌜ S·DynamicStorage .words (now (storage .exit)) ≡ wordsAfter call (S·DynamicStorage .words (now (storage .entry))) ⌝ }
@@ -35,8 +35,17 @@ pub fn perform_on<S: DynamicStorage>(storage: &mut S, call: Call) -> Answer
         },
         Call::Write(place, word) => yes_or_no(storage.write(place, word)),
         Call::SetCondition(to) => yes_or_no(storage.set_condition(to)),
-        Call::Code(_) | Call::Settings(_, _) | Call::Create(_) | Call::Close(_) | Call::Counters =>
-            Answer::No,
+        Call::Code(_)
+        | Call::Settings(_, _)
+        | Call::Create(_)
+        | Call::Close(_)
+        | Call::Counters
+        | Call::Send { .. }
+        | Call::Receive(_)
+        | Call::Release(_, _, _)
+        | Call::Reclaim(_)
+        | Call::HasData(_)
+        | Call::BorrowCount(_) => Answer::No,
         Call::Offset(value) => {
             let (segment, offset) = PointerOffset::from_value(value).parts();
             Answer::Place { segment, offset }

@@ -6,6 +6,8 @@ ghost use Rattle.dynamic_storage.specs.declared.condition.Stage.the-variants as
 ghost use Rattle.storage_backings.specs.Bytes.{oddBytes};
 use dynamic_storage::DynamicStorage;
 use dynamic_storage::Stage;
+use script::call::Call;
+use session::perform_on;
 use storage_backings::BorrowedBytes;
 use storage_backings::BorrowedBytesStorage;
 use storage_layers::ByteSwapped;
@@ -13,16 +15,16 @@ use storage_layers::ByteSwappedStorage;
 use storage_layers::Window;
 use storage_layers::WindowStorage;
 
-/// Sets a storage up with two words, and past its end.
+/// Sets a storage up with two words, and writes past its end, by the calls that the program makes.
 pub fn stamp<S: DynamicStorage>(storage: &mut S)
     ensures words { λ _. ⌜ S·DynamicStorage .words (now (storage .exit)) ≡ set (set (set (S·DynamicStorage .words (now (storage .entry))) 0 72623859790382856) 1 255) 18446744073709551615 7 ⌝ }
     ensures outside { λ _. ⌜ S·DynamicStorage .outside (now (storage .exit)) ≡ S·DynamicStorage .outside (now (storage .entry)) ⌝ }
 {
-    let _ = storage.set_condition(Stage::Forming);
-    let _ = storage.write(0, 0x0102_0304_0506_0708);
-    let _ = storage.write(1, 255);
-    let _ = storage.write(u64::MAX, 7);
-    let _ = storage.set_condition(Stage::Ready);
+    let _ = perform_on(storage, Call::SetCondition(Stage::Forming));
+    let _ = perform_on(storage, Call::Write(0, 0x0102_0304_0506_0708));
+    let _ = perform_on(storage, Call::Write(1, 255));
+    let _ = perform_on(storage, Call::Write(u64::MAX, 7));
+    let _ = perform_on(storage, Call::SetCondition(Stage::Ready));
 }
 
 /// The same in a window of borrowed bytes with reversed words: it is the same memory afterwards, and its odd bytes are as

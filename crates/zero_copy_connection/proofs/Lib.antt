@@ -1,0 +1,4 @@
+pub mod Opens
+pub mod Frees
+pub mod Evicts
+pub mod Delivers
