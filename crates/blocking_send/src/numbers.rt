@@ -1,9 +1,9 @@
 ghost use Rattle.std.specs.Prelude.{◌≡◌};
-ghost use Rattle.connection_types.specs.CallNumbers.{channel_number, send_number};
+ghost use Rattle.zero_copy_connection.specs.Numbers.{channel_number, send_number};
 ghost use Rattle.blocking_send.specs.Numbers.{blocking_number};
 
 use crate::ZeroCopyBlockingSendError;
-use connection_types::{ChannelError, ZeroCopySendError};
+use zero_copy_connection::{ChannelError, ZeroCopySendError};
 
 impl ZeroCopyBlockingSendError {
     pub fn number(self) -> u64

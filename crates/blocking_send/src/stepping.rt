@@ -1,5 +1,5 @@
 ghost use Rattle.std.specs.Prelude.{◌≡◌, ◌+◌, ◌<◌, ◌≤◌, if◌then◌else◌};
-ghost use Rattle.connection_types.specs.Numbers.{refused_by};
+ghost use Rattle.connection_ports.specs.Numbers.{refused_by};
 ghost use Rattle.zero_copy_connection.specs.Sending.{send_answer, send_words};
 ghost use Rattle.zero_copy_connection.specs.Answers.{answer_of, optional};
 ghost use Rattle.blocking_send.specs.Numbers.{blocking_number};
@@ -12,7 +12,7 @@ use crate::{
     BackpressurePolicy, BackpressureToReceiverAction as Action, Step, Waiting,
     ZeroCopyBlockingSendError as Error,
 };
-use connection_types::ChannelState;
+use connection_ports::ChannelState;
 use connection_words::{Channel, word};
 use dynamic_storage::DynamicStorage;
 use shm_allocator::PointerOffset;

@@ -4,9 +4,9 @@ use Rattle.std.proofs.lemmas.Bool.Decides.{nat_tests}
 use Rattle.dynamic_storage.specs.declared.condition.Condition.{Condition}
 use Rattle.connection_words.specs.declared.settings.Settings.{Settings}
 use Rattle.connection_words.specs.Soundness.{sound, is_ready, port_state}
-use Rattle.connection_types.specs.declared.port.Port.{Port}
-use Rattle.connection_types.specs.declared.port.Port.TheVariants as port
-use Rattle.connection_types.specs.Numbers.{bit_of}
+use Rattle.connection_ports.specs.declared.port.Port.{Port}
+use Rattle.connection_ports.specs.declared.port.Port.TheVariants as port
+use Rattle.connection_ports.specs.Numbers.{bit_of}
 use Rattle.connection_ports.specs.Creation.{whole, join_refusal, unless, joined}
 
 both : (a b : Bool) → a && b ≡ true → (a ≡ true) × (b ≡ true)

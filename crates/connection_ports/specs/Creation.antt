@@ -7,13 +7,13 @@ use Rattle.connection_words.specs.Settings.{buffer, borrowed, samples, segments,
 use Rattle.connection_words.specs.Places.{needed, submission_of, completion_of}
 use Rattle.connection_words.specs.Soundness.{sound, settings_of}
 use Rattle.connection_words.specs.Queues.{queue_sound}
-use Rattle.connection_types.specs.declared.error.DynamicStorageOpenError.{DynamicStorageOpenError}
-use Rattle.connection_types.specs.declared.error.DynamicStorageOpenError.TheVariants as fault
+use Rattle.connection_ports.specs.declared.error.DynamicStorageOpenError.{DynamicStorageOpenError}
+use Rattle.connection_ports.specs.declared.error.DynamicStorageOpenError.TheVariants as fault
 use Rattle.connection_ports.specs.declared.port.Entry.{Entry}
 use Rattle.connection_ports.specs.declared.port.Entry.TheVariants as entry
-use Rattle.connection_types.specs.declared.port.Port.{Port}
-use Rattle.connection_types.specs.declared.port.Port.TheVariants as port
-use Rattle.connection_types.specs.Numbers.{bit_of}
+use Rattle.connection_ports.specs.declared.port.Port.{Port}
+use Rattle.connection_ports.specs.declared.port.Port.TheVariants as port
+use Rattle.connection_ports.specs.Numbers.{bit_of}
 use Rattle.connection_ports.specs.Fresh.{fresh_words}
 
 -- both queues of a channel are sound

@@ -7,9 +7,9 @@ use Rattle.connection_words.specs.Settings.{too_small, too_large}
 use Rattle.connection_words.specs.Places.{needed}
 use Rattle.connection_words.specs.Soundness.{sound}
 use Rattle.connection_words.specs.Laws.{settings_with}
-use Rattle.connection_types.specs.declared.port.Port.{Port}
-use Rattle.connection_types.specs.declared.port.Port.TheVariants as port
-use Rattle.connection_types.specs.Numbers.{bit_of}
+use Rattle.connection_ports.specs.declared.port.Port.{Port}
+use Rattle.connection_ports.specs.declared.port.Port.TheVariants as port
+use Rattle.connection_ports.specs.Numbers.{bit_of}
 use Rattle.connection_ports.specs.Fresh.{fresh_words}
 use Rattle.connection_ports.specs.Creation.{creation_refusal, creation_words, creation_condition}
 use Rattle.connection_ports.specs.Closing.{closed_words, closed_condition}

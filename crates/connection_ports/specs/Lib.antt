@@ -1,3 +1,4 @@
+pub mod Numbers
 pub mod Fresh
 pub mod Creation
 pub mod Closing

@@ -2,11 +2,10 @@ ghost use Rattle.std.specs.Prelude.{◌≡◌, ◌≤◌, IfOk, if◌then◌else
 ghost use Rattle.dynamic_storage.specs.Meaning.{after_asking};
 ghost use Rattle.dynamic_storage.specs.declared.condition.Stage.TheVariants as stage;
 ghost use Rattle.connection_words.specs.Soundness.{sound};
-ghost use Rattle.connection_types.specs.Numbers.{refused_by, close_number, bit_of};
+ghost use Rattle.connection_ports.specs.Numbers.{refused_by, close_number, bit_of};
 ghost use Rattle.connection_ports.specs.Closing.{state_without, state_left, closed_words, closed_condition};
 
-use crate::PortToken;
-use connection_types::PortCloseError;
+use crate::{PortCloseError, PortToken};
 use connection_words::{layout_of, put, word};
 use dynamic_storage::{DynamicStorage, Stage};
 

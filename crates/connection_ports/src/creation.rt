@@ -2,16 +2,15 @@ ghost use Rattle.std.specs.Prelude.{◌≡◌, ℕ, ◌+◌, ◌≤◌, Bool, tr
 ghost use Rattle.dynamic_storage.specs.declared.condition.Condition.TheVariants.{Absent, Ready};
 ghost use Rattle.connection_words.specs.Settings.{raised, too_small, too_large};
 ghost use Rattle.connection_words.specs.Places.{needed};
-ghost use Rattle.connection_types.specs.Numbers.{creation_number, refused_by, fault_of, bit_of};
+ghost use Rattle.connection_ports.specs.Numbers.{creation_number, refused_by, fault_of, bit_of};
 ghost use Rattle.connection_ports.specs.Creation.{entry_of, holds, mismatch, join_refusal, joined, refusal_at, words_with, unless, creation_refusal, creation_fault, creation_words, creation_condition};
-ghost use Rattle.connection_types.specs.declared.port.Port.TheVariants as port;
+ghost use Rattle.connection_ports.specs.declared.port.Port.TheVariants as port;
 
-use crate::PortToken;
 use crate::fresh::write_fresh;
 use crate::port::Entry;
 use crate::queues::whole_layout_of;
-use connection_types::{
-    BorrowCounters, ChannelState, DynamicStorageOpenError, Port, ZeroCopyCreationError,
+use crate::{
+    BorrowCounters, ChannelState, DynamicStorageOpenError, Port, PortToken, ZeroCopyCreationError,
 };
 use connection_words::{Layout, Settings, put, word};
 use dynamic_storage::{Condition, DynamicStorage, Stage};

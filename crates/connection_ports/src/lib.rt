@@ -1,14 +1,22 @@
 //! The two ports of a connection: their creation over a storage, and their end.
 
+mod borrow_counters;
+mod channel_state;
 mod closing;
 mod creation;
+mod error;
 mod fresh;
 mod laws;
+mod numbers;
 mod port;
 mod queues;
 
+pub use borrow_counters::BorrowCounters;
+pub use channel_state::ChannelState;
 pub use closing::close;
 pub use creation::{create_receiver, create_sender};
+pub use error::{
+    ChannelStateNewError, DynamicStorageOpenError, PortCloseError, ZeroCopyCreationError,
+};
 pub use laws::{port_refusals_leave, ports_in_either_order, small_room};
-pub use port::PortToken;
-pub use queues::is_channel_sound;
+pub use port::{Port, PortToken};

@@ -1,6 +1,11 @@
 ghost use Rattle.std.specs.Prelude.{◌≡◌, true};
 
-use connection_types::Port;
+/// One of the two ports of a connection.
+#[derive(Clone, Copy)]
+pub enum Port {
+    Sender,
+    Receiver,
+}
 
 /// How a storage is entered.
 #[derive(Clone, Copy)]

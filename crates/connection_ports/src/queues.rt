@@ -8,7 +8,7 @@ use connection_words::{Channel, Layout, layout_of};
 use dynamic_storage::DynamicStorage;
 
 /// Whether both queues of a channel are sound.
-pub fn is_channel_sound<S: DynamicStorage>(storage: &S, channel: &Channel) -> bool
+fn is_channel_sound<S: DynamicStorage>(storage: &S, channel: &Channel) -> bool
     ensures { result ≡ channel_sound (S.DynamicStorage.words storage.now) channel.now.settings channel.now.index }
 {
     channel.submission().is_sound(storage) && channel.completion().is_sound(storage)

@@ -6,9 +6,9 @@ use Rattle.dynamic_storage.specs.declared.condition.Condition.TheVariants.{Absen
 use Rattle.connection_words.specs.declared.settings.Settings.{Settings}
 use Rattle.connection_words.specs.Settings.{buffer, borrowed, samples, segments, channels, at_least_one, raised, too_small, too_large}
 use Rattle.connection_words.specs.Places.{needed}
-use Rattle.connection_types.specs.declared.port.Port.{Port}
-use Rattle.connection_types.specs.declared.port.Port.TheVariants as port
-use Rattle.connection_types.specs.Numbers.{bit_of}
+use Rattle.connection_ports.specs.declared.port.Port.{Port}
+use Rattle.connection_ports.specs.declared.port.Port.TheVariants as port
+use Rattle.connection_ports.specs.Numbers.{bit_of}
 use Rattle.connection_ports.specs.Fresh.{fresh_words}
 use Rattle.connection_ports.specs.Creation.{creation_refusal, creation_words, creation_condition, joined}
 use Rattle.connection_ports.specs.Laws.{other}

@@ -3,7 +3,7 @@ use Rattle.std.proofs.Common.{◌≡◌, ℕ, zero, suc, ◌<◌, Bool, true, fa
 use Rattle.std.proofs.lemmas.Bool.{and_parts, eqb-true, eq-eqb, true≢false}
 use Rattle.connection_words.specs.Settings.{channels}
 use Rattle.connection_words.specs.Places.{channel_at, detail_at, needed}
-use Rattle.connection_types.specs.declared.port.Port.TheVariants as port
+use Rattle.connection_ports.specs.declared.port.Port.TheVariants as port
 use Rattle.connection_ports.specs.Creation.{whole}
 use Rattle.zero_copy_connection.specs.Answers.{Answer}
 use Rattle.zero_copy_connection.specs.Checks.{channel_refusal}

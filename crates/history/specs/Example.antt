@@ -5,7 +5,7 @@ use Rattle.dynamic_storage.specs.declared.condition.Condition.TheVariants.{Absen
 use Rattle.connection_words.specs.declared.settings.Settings.{Settings}
 use Rattle.connection_words.specs.Settings.{channels}
 use Rattle.connection_words.specs.Laws.{settings_with}
-use Rattle.connection_types.specs.declared.port.Port.TheVariants as port
+use Rattle.connection_ports.specs.declared.port.Port.TheVariants as port
 use Rattle.zero_copy_connection.specs.Answers.{refused, nothing, value, flag, number}
 use Rattle.blocking_send.specs.declared.action.BackpressureToReceiverAction.TheVariants.{FollowBackpressureyStrategy, Retry, DiscardPointerOffset, DiscardPointerOffsetAndFail}
 use Rattle.blocking_send.specs.Waits.{Pending, begun, later, goes, ends}

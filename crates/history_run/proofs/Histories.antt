@@ -4,7 +4,7 @@ use Rattle.std.specs.Option.{option_map}
 use Rattle.dynamic_storage.specs.declared.condition.Condition.{Condition}
 use Rattle.connection_words.specs.declared.settings.Settings.{Settings}
 use Rattle.connection_words.specs.Settings.{channels}
-use Rattle.connection_types.specs.declared.port.Port.{Port}
+use Rattle.connection_ports.specs.declared.port.Port.{Port}
 use Rattle.channel_laws.specs.Calls.{State, state_of}
 use Rattle.blocking_send.specs.Waits.{Pending, elapsed}
 use Rattle.history.specs.Events.{Event, Answered, leaves, Runs}

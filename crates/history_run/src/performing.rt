@@ -7,7 +7,7 @@ ghost use Rattle.history_run.specs.Made.{plain, sent, held_in, next, told};
 use crate::slots::{begin_at, new_send, step_at};
 use crate::{Answer, Call, PendingSend};
 use blocking_send::BackpressurePolicy;
-use connection_types::BorrowCounters;
+use connection_ports::BorrowCounters;
 use dynamic_storage::DynamicStorage;
 use shm_allocator::PointerOffset;
 use zero_copy_connection::{borrow_count, has_data, receive, reclaim, release, try_send};

@@ -1,14 +1,14 @@
 ghost use Rattle.std.specs.Prelude.{◌≡◌, replicate, IfOk};
 ghost use Rattle.dynamic_storage.specs.declared.condition.Condition.TheVariants.{Absent};
 ghost use Rattle.connection_words.specs.Settings.{raised};
-ghost use Rattle.connection_types.specs.declared.port.Port.TheVariants as port;
-ghost use Rattle.connection_types.specs.Numbers.{creation_number, refused_by};
+ghost use Rattle.connection_ports.specs.declared.port.Port.TheVariants as port;
+ghost use Rattle.connection_ports.specs.Numbers.{creation_number, refused_by};
 ghost use Rattle.connection_ports.specs.Creation.{creation_refusal};
 ghost use Rattle.history_run.specs.Ran.{OpenedTo, Open};
 
 use crate::run::Ports;
 use connection_ports::{create_receiver, create_sender};
-use connection_types::{ChannelState, Port, ZeroCopyCreationError};
+use connection_ports::{ChannelState, Port, ZeroCopyCreationError};
 use connection_words::Settings;
 use dynamic_storage::DynamicStorage;
 

@@ -1,6 +1,6 @@
 use crate::{Answer, PendingSend};
 use connection_ports::PortToken;
-use connection_types::{BorrowCounters, ZeroCopyCreationError};
+use connection_ports::{BorrowCounters, ZeroCopyCreationError};
 
 /// What a history leaves to its caller, beside the storage. Both ports have to be closed.
 pub struct Run {

@@ -1,5 +1,5 @@
 ghost use Rattle.std.specs.Prelude.{◌≡◌, ◌≤◌, [], length, replicate, IfOk, None, vec_len, vec_capacity, MatchResult, OnErr};
-ghost use Rattle.connection_types.specs.declared.port.Port.TheVariants as port;
+ghost use Rattle.connection_ports.specs.declared.port.Port.TheVariants as port;
 ghost use Rattle.history_run.specs.Course.{Course};
 ghost use Rattle.history_run.specs.Made.{held_in, next, told};
 ghost use Rattle.history_run.specs.Ran.{Open, Ran, Unmade};
@@ -9,7 +9,7 @@ use crate::ports::create_ports;
 use crate::run::{Memory, Ports};
 use crate::{Answer, Call, PendingSend, Run, RunError};
 use blocking_send::BackpressurePolicy;
-use connection_types::{BorrowCounters, ChannelState, Port};
+use connection_ports::{BorrowCounters, ChannelState, Port};
 use connection_words::Settings;
 use dynamic_storage::{Condition, DynamicStorage};
 use std::alloc::{AllocError, Global};

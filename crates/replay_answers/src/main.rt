@@ -1,10 +1,7 @@
 //! The same program as `replay`, run on a script that visits every answer.
 
-use replayer::replay_or_story;
-use std::io::Read;
+use replayer::replay_input;
 
 fn main(rt: HostRuntime) -> anyhow::Result<()> {
-    let mut script = Vec::new(rt.alloc());
-    rt.stdin().read_to_end(&mut script)?;
-    replay_or_story(&rt, script.as_slice())
+    replay_input(&rt)
 }

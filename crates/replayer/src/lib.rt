@@ -3,10 +3,8 @@
 mod backing;
 mod built_in;
 mod error;
-mod histories;
 mod layers;
-mod printing;
 mod replaying;
 
 pub use error::ReplayError;
-pub use replaying::{replay, replay_or_story};
+pub use replaying::{replay, replay_input};

@@ -1,13 +1,9 @@
 -- The groups of keywords, opened.
 use Rattle.std.proofs.Common.{◌≡◌, ℕ, List, Err, refl}
 use Rattle.script.specs.declared.call.Expected.TheVariants as expected
-use Rattle.script.specs.Grammar.{by_table, wait_lines, wait_call, transfer_lines, transfer_call, port_lines, port_call, address_lines, address_call, condition_lines, condition_call}
+use Rattle.script.specs.Grammar.{by_table, transfer_lines, transfer_call, port_lines, port_call, address_lines, address_call, condition_lines, condition_call}
 
-pub wait_call_is : (k : List ℕ) (ws : List (List ℕ)) → by_table wait_lines k (λ _. Err expected.Keyword) ws ≡ wait_call k ws
-unfolding wait_call
-wait_call_is k ws = refl
-
-pub transfer_call_is : (k : List ℕ) (ws : List (List ℕ)) → by_table transfer_lines k (wait_call k) ws ≡ transfer_call k ws
+pub transfer_call_is : (k : List ℕ) (ws : List (List ℕ)) → by_table transfer_lines k (λ _. Err expected.Keyword) ws ≡ transfer_call k ws
 unfolding transfer_call
 transfer_call_is k ws = refl
 

@@ -1,13 +1,11 @@
-use Rattle.std.specs.Prelude.{ℕ, Bool, true, false, cond, List, [], ◌∷◌, length, is_some, Some, None, Ok, Err, codes, Option, Result, ◌==◌, nat_lt, slice_index}
+use Rattle.std.specs.Prelude.{ℕ, Bool, true, false, cond, List, [], ◌∷◌, is_some, Some, None, Ok, Err, codes, Option, Result, ◌==◌, nat_lt}
 use Prim.Native.String.{String}
 use Rattle.std.specs.Str.{bytes_eq}
 use Rattle.dynamic_storage.specs.declared.Stage.{Stage}
 use Rattle.dynamic_storage.specs.declared.Stage.TheVariants as stages
-use Rattle.connection_types.specs.declared.port.Port.{Port}
-use Rattle.connection_types.specs.declared.port.Port.TheVariants as ports
+use Rattle.connection_ports.specs.declared.port.Port.{Port}
+use Rattle.connection_ports.specs.declared.port.Port.TheVariants as ports
 use Rattle.connection_words.specs.declared.settings.Settings.{Settings}
-use Rattle.blocking_send.specs.declared.action.BackpressureToReceiverAction.{BackpressureToReceiverAction}
-use Rattle.blocking_send.specs.declared.action.BackpressureToReceiverAction.TheVariants as action
 use Rattle.script.specs.declared.call.Backing.{Backing}
 use Rattle.script.specs.declared.call.Backing.TheVariants as backings
 use Rattle.script.specs.declared.call.Frame.{Frame}
@@ -16,15 +14,6 @@ use Rattle.script.specs.declared.call.StateWord.{StateWord}
 use Rattle.script.specs.declared.call.StateWord.TheVariants as states
 use Rattle.script.specs.declared.call.Call.{Call}
 use Rattle.script.specs.declared.call.Call.TheVariants as calls
-use Rattle.script.specs.declared.call.StorageCall.{StorageCall}
-use Rattle.script.specs.declared.call.StorageCall.TheVariants as storage
-use Rattle.script.specs.declared.call.PortCall.{PortCall}
-use Rattle.script.specs.declared.call.PortCall.TheVariants as port
-use Rattle.script.specs.declared.call.ChannelCall.{ChannelCall}
-use Rattle.script.specs.declared.call.ChannelCall.TheVariants as channel
-use Rattle.script.specs.declared.call.Policy.{Policy}
-use Rattle.script.specs.declared.call.Policy.TheVariants as policies
-use Rattle.script.specs.declared.call.Wait.{Wait}
 use Rattle.script.specs.declared.call.Line.{Line}
 use Rattle.script.specs.declared.call.Line.TheVariants as lines
 use Rattle.script.specs.declared.call.Expected.{Expected}
@@ -146,68 +135,11 @@ settings_and_state f ws = then (settings ws) (λ p. then (word expected.State st
 
 -- a value sent: an offset, a segment, a size and a channel
 abbrev pub sent : Rest Call
-sent ws = then (number ws) (λ p. then (segment p.1) (λ q. two (λ size c. calls.Channel (channel.Send p.0 q.0 size c)) q.1))
+sent ws = then (number ws) (λ p. then (segment p.1) (λ q. two (calls.Send p.0 q.0) q.1))
 
 -- a value given back: an offset, a segment and a channel
 abbrev pub released : Rest Call
-released ws = then (number ws) (λ p. then (segment p.1) (λ q. one (λ c. calls.Channel (channel.Release p.0 q.0 c)) q.1))
-
--- a slot, 0 to 63
-abbrev pub slot_in : Option ℕ → Result ℕ Expected
-slot_in None = Err expected.Slot
-slot_in (Some n) = cond (nat_lt n 64) (Ok n) (Err expected.Slot)
-
-abbrev pub slot : Reader ℕ
-slot ws = word expected.Slot (λ w. slot_in (number_of w)) ws
-
--- the action that a word names
-abbrev pub action_of : List ℕ → Result BackpressureToReceiverAction Expected
-action_of w =
-    cond (is w "follow") (Ok action.FollowBackpressureyStrategy)
-    (cond (is w "retry") (Ok action.Retry)
-    (cond (is w "discard") (Ok action.DiscardPointerOffset)
-    (cond (is w "fail") (Ok action.DiscardPointerOffsetAndFail) (Err expected.Action))))
-
-abbrev pub action_next : Reader BackpressureToReceiverAction
-action_next ws = word expected.Action action_of ws
-
--- the action that a letter of a table stands for: o follows, r retries, d discards, f fails
-abbrev pub letter_of : ℕ → Result BackpressureToReceiverAction Expected
-letter_of b =
-    cond (b == 111) (Ok action.FollowBackpressureyStrategy)
-    (cond (b == 114) (Ok action.Retry)
-    (cond (b == 100) (Ok action.DiscardPointerOffset)
-    (cond (b == 102) (Ok action.DiscardPointerOffsetAndFail) (Err expected.Table))))
-
--- a table of four letters
-abbrev pub table_of : List ℕ → Result Policy Expected
-table_of w =
-    cond (length w == 4)
-    (then (letter_of (slice_index w 0)) (λ a. then (letter_of (slice_index w 1)) (λ b. then (letter_of (slice_index w 2)) (λ c. then (letter_of (slice_index w 3)) (λ d.
-    Ok (policies.Table a b c d))))))
-    (Err expected.Table)
-
--- a policy: one action, a number of retries, or a table
-abbrev pub policy_next : Reader Policy
-policy_next [] = Err expected.Policy
-policy_next (w ∷ ws) =
-    cond (is w "fixed") (then (action_next ws) (λ p. Ok (policies.Fixed p.0, p.1)))
-    (cond (is w "retries") (then (number ws) (λ p. Ok (policies.Retries p.0, p.1)))
-    (cond (is w "table") (word expected.Table table_of ws) (Err expected.Policy)))
-
--- a pending send after its slot: an offset, a segment, a size, a channel, a strategy, a policy and a budget
-abbrev pub waited : ℕ → Rest Call
-waited id ws =
-    then (number ws) (λ o. then (segment o.1) (λ g. then (number g.1) (λ n. then (number n.1) (λ c.
-    then (action_next c.1) (λ s. then (policy_next s.1) (λ p.
-    one (λ budget. calls.Channel (channel.Wait id (record { offset = o.0; segment = g.0; size = n.0; channel = c.0; strategy = s.0; policy = p.0; budget = budget }))) p.1))))))
-
-abbrev pub waiting : Rest Call
-waiting ws = then (slot ws) (λ id. waited id.0 id.1)
-
--- a step of a pending send
-abbrev pub stepping : Rest Call
-stepping ws = then (slot ws) (λ id. alone (calls.Channel (channel.Step id.0)) id.1)
+released ws = then (number ws) (λ p. then (segment p.1) (λ q. one (calls.Release p.0 q.0) q.1))
 
 -- keywords, each with what follows it on its line
 abbrev pub Table : Type 0
@@ -216,52 +148,45 @@ Table = List (String × Rest Call)
 -- the lines on the words of a storage
 abbrev pub word_lines : Table
 word_lines =
-    ("length", alone (calls.Storage storage.Length))
-    ∷ ("words", alone (calls.Storage storage.Words))
-    ∷ ("read", one (λ place. calls.Storage (storage.Read place)))
-    ∷ ("write", two (λ place w. calls.Storage (storage.Write place w)))
+    ("length", alone calls.Length)
+    ∷ ("words", alone calls.Words)
+    ∷ ("read", one calls.Read)
+    ∷ ("write", two calls.Write)
     ∷ []
 
 -- the lines on its condition
 abbrev pub condition_lines : Table
 condition_lines =
-    ("condition", alone (calls.Storage storage.Condition))
-    ∷ ("set_condition", one_stage (λ to. calls.Storage (storage.SetCondition to)))
+    ("condition", alone calls.Condition)
+    ∷ ("set_condition", one_stage calls.SetCondition)
     ∷ ("code", one calls.Code)
     ∷ []
 
 -- the lines on addresses
 abbrev pub address_lines : Table
 address_lines =
-    ("offset", one (λ v. calls.Storage (storage.Offset v)))
-    ∷ ("value", number_and_segment (λ offset g. calls.Storage (storage.Value offset g)))
+    ("offset", one calls.Offset)
+    ∷ ("value", number_and_segment calls.Value)
     ∷ []
 
 -- the lines on the ports of a connection
 abbrev pub port_lines : Table
 port_lines =
-    ("settings", settings_and_state (λ s state. calls.Port (port.Settings s state)))
-    ∷ ("create", one_port (λ p. calls.Port (port.Create p)))
-    ∷ ("close", one_port (λ p. calls.Port (port.Close p)))
-    ∷ ("counters", alone (calls.Port port.Counters))
+    ("settings", settings_and_state calls.Settings)
+    ∷ ("create", one_port calls.Create)
+    ∷ ("close", one_port calls.Close)
+    ∷ ("counters", alone calls.Counters)
     ∷ []
 
 -- the lines on the values that go through a connection
 abbrev pub transfer_lines : Table
 transfer_lines =
     ("send", sent)
-    ∷ ("receive", one (λ c. calls.Channel (channel.Receive c)))
+    ∷ ("receive", one calls.Receive)
     ∷ ("release", released)
-    ∷ ("reclaim", one (λ c. calls.Channel (channel.Reclaim c)))
-    ∷ ("has_data", one (λ c. calls.Channel (channel.HasData c)))
-    ∷ ("borrow_count", one (λ c. calls.Channel (channel.BorrowCount c)))
-    ∷ []
-
--- the lines on pending sends
-abbrev pub wait_lines : Table
-wait_lines =
-    ("wait", waiting)
-    ∷ ("step", stepping)
+    ∷ ("reclaim", one calls.Reclaim)
+    ∷ ("has_data", one calls.HasData)
+    ∷ ("borrow_count", one calls.BorrowCount)
     ∷ []
 
 -- the rest of a line by the row of its keyword k, or else by what other says
@@ -269,13 +194,9 @@ abbrev pub by_table : Table → List ℕ → Rest Call → Rest Call
 by_table [] k other ws = other ws
 by_table (row ∷ rows) k other ws = cond (is k row.0) (row.1 ws) (by_table rows k other ws)
 
--- the lines on pending sends; no other keyword is known. Shut, so that a proof has one table before it
-unfoldable pub wait_call : List ℕ → Rest Call
-wait_call k ws = by_table wait_lines k (λ _. Err expected.Keyword) ws
-
--- the lines on values, and those after them
+-- the lines on values; no other keyword is known. Shut, so that a proof has one table before it
 unfoldable pub transfer_call : List ℕ → Rest Call
-transfer_call k ws = by_table transfer_lines k (wait_call k) ws
+transfer_call k ws = by_table transfer_lines k (λ _. Err expected.Keyword) ws
 
 -- the lines on ports, and those after them
 unfoldable pub port_call : List ℕ → Rest Call

@@ -5,4 +5,3 @@ pub mod Cursor
 pub mod Lines
 pub mod Scripts
 pub mod Progress
-pub mod Policies

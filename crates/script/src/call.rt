@@ -1,5 +1,4 @@
-use blocking_send::BackpressureToReceiverAction;
-use connection_types::Port;
+use connection_ports::Port;
 use connection_words::Settings;
 use dynamic_storage::Stage;
 
@@ -34,59 +33,22 @@ pub enum StateWord {
     Closed,
 }
 
-/// A call on the storage alone, or on an address.
+/// A call that a line asks for.
 #[derive(Clone, Copy)]
-pub enum StorageCall {
+pub enum Call {
     Condition,
     Length,
     Words,
     Read(u64),
     Write(u64, u64),
     SetCondition(Stage),
+    Code(u64),
     Offset(u64),
     Value(u64, u8),
-}
-
-/// A call on the ports of a connection.
-#[derive(Clone, Copy)]
-pub enum PortCall {
     Settings(Settings, StateWord),
     Create(Port),
     Close(Port),
     Counters,
-}
-
-/// How a pending send is told what to do where there is no room.
-#[derive(Clone, Copy)]
-pub enum Policy {
-    /// Always the same action.
-    Fixed(BackpressureToReceiverAction),
-    /// So many retries, and then a failure.
-    Retries(u64),
-    /// The action at (retries + 2 x elapsed) mod 4.
-    Table(
-        BackpressureToReceiverAction,
-        BackpressureToReceiverAction,
-        BackpressureToReceiverAction,
-        BackpressureToReceiverAction,
-    ),
-}
-
-/// A pending send that begins.
-#[derive(Clone, Copy)]
-pub struct Wait {
-    pub offset: u64,
-    pub segment: u8,
-    pub size: u64,
-    pub channel: u64,
-    pub strategy: BackpressureToReceiverAction,
-    pub policy: Policy,
-    pub budget: u64,
-}
-
-/// A call on a channel of a connection.
-#[derive(Clone, Copy)]
-pub enum ChannelCall {
     Send {
         offset: u64,
         segment: u8,
@@ -98,20 +60,6 @@ pub enum ChannelCall {
     Reclaim(u64),
     HasData(u64),
     BorrowCount(u64),
-    /// A pending send begins in one of 64 slots.
-    Wait(u64, Wait),
-    /// The pending send in a slot takes a step.
-    Step(u64),
-}
-
-/// A call that a line asks for.
-#[derive(Clone, Copy)]
-pub enum Call {
-    Storage(StorageCall),
-    /// Writes the code of the backing, below all layers.
-    Code(u64),
-    Port(PortCall),
-    Channel(ChannelCall),
 }
 
 /// What a line says.
@@ -134,10 +82,6 @@ pub enum Expected {
     Overflow,
     State,
     Port,
-    Slot,
-    Action,
-    Policy,
-    Table,
     End,
     StorageFirst,
     CodeNeedsMemory,

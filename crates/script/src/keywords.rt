@@ -3,7 +3,7 @@ ghost use Rattle.script.specs.Grammar.{call, by_table, condition_lines, address_
 ghost use Rattle.script.specs.Cursor.{ahead};
 
 use crate::arguments::{alone, next_number, next_segment, next_stage};
-use crate::call::{Call, Expected, PortCall, StorageCall};
+use crate::call::{Call, Expected};
 use crate::ports::{next_port, next_settings, next_state};
 use crate::transfers::transfer_call;
 use crate::words::{Words, is};
@@ -13,19 +13,19 @@ pub(crate) fn call(keyword: &[u8], words: &mut Words<'_>) -> Result<Call, Expect
     ensures { result ≡ call keyword.now (ahead words.old) }
 {
     if is(keyword, "length") {
-        return alone(words, Call::Storage(StorageCall::Length));
+        return alone(words, Call::Length);
     }
     if is(keyword, "words") {
-        return alone(words, Call::Storage(StorageCall::Words));
+        return alone(words, Call::Words);
     }
     if is(keyword, "read") {
         let place = next_number(words)?;
-        return alone(words, Call::Storage(StorageCall::Read(place)));
+        return alone(words, Call::Read(place));
     }
     if is(keyword, "write") {
         let place = next_number(words)?;
         let word = next_number(words)?;
-        return alone(words, Call::Storage(StorageCall::Write(place, word)));
+        return alone(words, Call::Write(place, word));
     }
     condition_call(keyword, words)
 }
@@ -35,11 +35,11 @@ fn condition_call(keyword: &[u8], words: &mut Words<'_>) -> Result<Call, Expecte
     ensures { result ≡ by_table condition_lines keyword.now (address_call keyword.now) (ahead words.old) }
 {
     if is(keyword, "condition") {
-        return alone(words, Call::Storage(StorageCall::Condition));
+        return alone(words, Call::Condition);
     }
     if is(keyword, "set_condition") {
         let stage = next_stage(words)?;
-        return alone(words, Call::Storage(StorageCall::SetCondition(stage)));
+        return alone(words, Call::SetCondition(stage));
     }
     if is(keyword, "code") {
         let word = next_number(words)?;
@@ -54,12 +54,12 @@ fn address_call(keyword: &[u8], words: &mut Words<'_>) -> Result<Call, Expected>
 {
     if is(keyword, "offset") {
         let value = next_number(words)?;
-        return alone(words, Call::Storage(StorageCall::Offset(value)));
+        return alone(words, Call::Offset(value));
     }
     if is(keyword, "value") {
         let offset = next_number(words)?;
         let segment = next_segment(words)?;
-        return alone(words, Call::Storage(StorageCall::Value(offset, segment)));
+        return alone(words, Call::Value(offset, segment));
     }
     port_call(keyword, words)
 }
@@ -71,18 +71,18 @@ fn port_call(keyword: &[u8], words: &mut Words<'_>) -> Result<Call, Expected>
     if is(keyword, "settings") {
         let settings = next_settings(words)?;
         let state = next_state(words)?;
-        return alone(words, Call::Port(PortCall::Settings(settings, state)));
+        return alone(words, Call::Settings(settings, state));
     }
     if is(keyword, "create") {
         let port = next_port(words)?;
-        return alone(words, Call::Port(PortCall::Create(port)));
+        return alone(words, Call::Create(port));
     }
     if is(keyword, "close") {
         let port = next_port(words)?;
-        return alone(words, Call::Port(PortCall::Close(port)));
+        return alone(words, Call::Close(port));
     }
     if is(keyword, "counters") {
-        return alone(words, Call::Port(PortCall::Counters));
+        return alone(words, Call::Counters);
     }
     transfer_call(keyword, words)
 }

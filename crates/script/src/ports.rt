@@ -6,7 +6,7 @@ use crate::arguments::next_number;
 use crate::call::{Expected, StateWord};
 use crate::digits;
 use crate::words::{Words, is};
-use connection_types::Port;
+use connection_ports::Port;
 use connection_words::Settings;
 
 // The port that a word names.

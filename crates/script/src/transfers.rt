@@ -1,10 +1,9 @@
-ghost use Rattle.std.specs.Prelude.{◌≡◌};
-ghost use Rattle.script.specs.Grammar.{by_table, transfer_lines, wait_call, sent, released};
+ghost use Rattle.std.specs.Prelude.{◌≡◌, Err};
+ghost use Rattle.script.specs.Grammar.{by_table, transfer_lines, sent, released};
 ghost use Rattle.script.specs.Cursor.{ahead};
 
 use crate::arguments::{alone, next_number, next_segment};
-use crate::call::{Call, ChannelCall, Expected};
-use crate::waits::wait_call;
+use crate::call::{Call, Expected};
 use crate::words::{Words, is};
 
 // The rest of a line that sends a value.
@@ -15,13 +14,13 @@ fn send_call(words: &mut Words<'_>) -> Result<Call, Expected>
     let segment = next_segment(words)?;
     let size = next_number(words)?;
     let channel = next_number(words)?;
-    let call = ChannelCall::Send {
+    let call = Call::Send {
         offset,
         segment,
         size,
         channel,
     };
-    alone(words, Call::Channel(call))
+    alone(words, call)
 }
 
 // The rest of a line that gives a value back.
@@ -31,37 +30,34 @@ fn release_call(words: &mut Words<'_>) -> Result<Call, Expected>
     let offset = next_number(words)?;
     let segment = next_segment(words)?;
     let channel = next_number(words)?;
-    alone(
-        words,
-        Call::Channel(ChannelCall::Release(offset, segment, channel)),
-    )
+    alone(words, Call::Release(offset, segment, channel))
 }
 
 /// The call of a line on the values that go through a connection.
 pub(crate) fn transfer_call(keyword: &[u8], words: &mut Words<'_>) -> Result<Call, Expected>
-    ensures { result ≡ by_table transfer_lines keyword.now (wait_call keyword.now) (ahead words.old) }
+    ensures { result ≡ by_table transfer_lines keyword.now (λ _. Err Expected.Keyword) (ahead words.old) }
 {
     if is(keyword, "send") {
         return send_call(words);
     }
     if is(keyword, "receive") {
         let channel = next_number(words)?;
-        return alone(words, Call::Channel(ChannelCall::Receive(channel)));
+        return alone(words, Call::Receive(channel));
     }
     if is(keyword, "release") {
         return release_call(words);
     }
     if is(keyword, "reclaim") {
         let channel = next_number(words)?;
-        return alone(words, Call::Channel(ChannelCall::Reclaim(channel)));
+        return alone(words, Call::Reclaim(channel));
     }
     if is(keyword, "has_data") {
         let channel = next_number(words)?;
-        return alone(words, Call::Channel(ChannelCall::HasData(channel)));
+        return alone(words, Call::HasData(channel));
     }
     if is(keyword, "borrow_count") {
         let channel = next_number(words)?;
-        return alone(words, Call::Channel(ChannelCall::BorrowCount(channel)));
+        return alone(words, Call::BorrowCount(channel));
     }
-    wait_call(keyword, words)
+    Err(Expected::Keyword)
 }

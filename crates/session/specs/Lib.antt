@@ -1,5 +1,1 @@
-pub mod Held
 pub mod Answers
-pub mod Ports
-pub mod Channels
-pub mod Performed

@@ -1,4 +1,5 @@
 use dynamic_storage::Condition;
+use std::fmt;
 
 /// What a call of a script answers.
 #[derive(Clone, Copy)]
@@ -25,8 +26,35 @@ pub enum Answer {
     NoPort,
     /// The borrow counters, which whoever prints the answer reads off the session.
     Counters,
-    /// A pending send goes on waiting.
-    Pending,
-    /// No send is pending in the slot.
-    NoWait,
+}
+
+impl fmt::Display for Answer {
+    fn fmt<W: fmt::Write>(&self, f: &mut fmt::Formatter<W>) -> fmt::Result {
+        match self {
+            Answer::Yes => write!(f, "yes"),
+            Answer::No => write!(f, "no"),
+            Answer::None => write!(f, "none"),
+            Answer::Value(value) => write!(f, "value {value}"),
+            Answer::Count(count) => write!(f, "count {count}"),
+            Answer::Shows(condition) => write!(f, "{}", name(*condition)),
+            Answer::Place { segment, offset } => write!(f, "segment {segment} offset {offset}"),
+            Answer::List | Answer::Counters => write!(f, "list"),
+            Answer::Ok => write!(f, "ok"),
+            Answer::Evicted(value) => write!(f, "evicted {value}"),
+            Answer::State(state) => write!(f, "state {state}"),
+            Answer::Refused(number) => write!(f, "refused {number} {}", answers::name(*number)),
+            Answer::NoPort => write!(f, "noport"),
+        }
+    }
+}
+
+/// The word for a condition.
+fn name(condition: Condition) -> &'static str {
+    match condition {
+        Condition::Absent => "absent",
+        Condition::Forming => "forming",
+        Condition::Ready => "ready",
+        Condition::Broken => "broken",
+        Condition::OtherVersion => "other",
+    }
 }

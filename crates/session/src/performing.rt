@@ -1,12 +1,9 @@
 ghost use Rattle.std.specs.Prelude.{◌≡◌, ℕ, IfOk};
 ghost use Rattle.session.specs.Answers.{answered, words_after, condition_after, yes_or_no};
-ghost use Rattle.session.specs.Held.{held_by};
-ghost use Rattle.session.specs.Performed.{performed_answer, performed_words, performed_condition, performed_held};
 
 use crate::Answer;
-use crate::holding::Session;
 use dynamic_storage::DynamicStorage;
-use script::call::{Call, StorageCall};
+use script::call::Call;
 use shm_allocator::{PointerOffset, SegmentId};
 use std::alloc::{AllocError, Global};
 
@@ -16,48 +13,42 @@ pub(crate) fn yes_or_no(yes: bool) -> Answer
     if yes { Answer::Yes } else { Answer::No }
 }
 
-/// Performs a call on the storage alone.
-pub fn perform_on<S: DynamicStorage>(storage: &mut S, call: StorageCall) -> Answer
+/// Performs a call on the storage alone. A `Code` is for the backing below it and a call on a port or a channel for a
+/// session, so here they answer no.
+pub fn perform_on<S: DynamicStorage>(storage: &mut S, call: Call) -> Answer
     ensures answer { result ≡ answered call (S.DynamicStorage.condition storage.old) (S.DynamicStorage.words storage.old) }
     ensures words { S.DynamicStorage.words storage.new ≡ words_after call (S.DynamicStorage.words storage.old) }
     ensures condition { S.DynamicStorage.condition storage.new ≡ condition_after call (S.DynamicStorage.condition storage.old) }
     ensures outside { S.DynamicStorage.outside storage.new ≡ S.DynamicStorage.outside storage.old }
 {
     match call {
-        StorageCall::Condition => Answer::Shows(storage.condition()),
-        StorageCall::Length => Answer::Count(storage.len()),
-        StorageCall::Words => Answer::List,
-        StorageCall::Read(place) => match storage.read(place) {
+        Call::Condition => Answer::Shows(storage.condition()),
+        Call::Length => Answer::Count(storage.len()),
+        Call::Words => Answer::List,
+        Call::Read(place) => match storage.read(place) {
             Some(word) => Answer::Value(word),
             None => Answer::None,
         },
-        StorageCall::Write(place, word) => yes_or_no(storage.write(place, word)),
-        StorageCall::SetCondition(to) => yes_or_no(storage.set_condition(to)),
-        StorageCall::Offset(value) => {
+        Call::Write(place, word) => yes_or_no(storage.write(place, word)),
+        Call::SetCondition(to) => yes_or_no(storage.set_condition(to)),
+        Call::Code(_)
+        | Call::Settings(_, _)
+        | Call::Create(_)
+        | Call::Close(_)
+        | Call::Counters
+        | Call::Send { .. }
+        | Call::Receive(_)
+        | Call::Release(_, _, _)
+        | Call::Reclaim(_)
+        | Call::HasData(_)
+        | Call::BorrowCount(_) => Answer::No,
+        Call::Offset(value) => {
             let (segment, offset) = PointerOffset::from_value(value).parts();
             Answer::Place { segment, offset }
         }
-        StorageCall::Value(offset, segment) => {
+        Call::Value(offset, segment) => {
             let place = PointerOffset::from_offset_and_segment_id(offset, SegmentId::new(segment));
             Answer::Value(place.as_value())
-        }
-    }
-}
-
-impl Session {
-    /// Performs one call of a script. A code is for the backing below the storage, so here it answers no.
-    pub fn perform<S: DynamicStorage>(&mut self, storage: &mut S, call: Call) -> Answer
-        ensures answer { result ≡ performed_answer call (held_by self.old) (S.DynamicStorage.condition storage.old) (S.DynamicStorage.words storage.old) }
-        ensures held { held_by self.new ≡ performed_held call (held_by self.old) (S.DynamicStorage.condition storage.old) (S.DynamicStorage.words storage.old) }
-        ensures words { S.DynamicStorage.words storage.new ≡ performed_words call (held_by self.old) (S.DynamicStorage.condition storage.old) (S.DynamicStorage.words storage.old) }
-        ensures condition { S.DynamicStorage.condition storage.new ≡ performed_condition call (held_by self.old) (S.DynamicStorage.condition storage.old) (S.DynamicStorage.words storage.old) }
-        ensures outside { S.DynamicStorage.outside storage.new ≡ S.DynamicStorage.outside storage.old }
-    {
-        match call {
-            Call::Storage(call) => perform_on(storage, call),
-            Call::Code(_) => Answer::No,
-            Call::Port(call) => self.perform_on_ports(storage, call),
-            Call::Channel(call) => self.perform_on_channel(storage, call),
         }
     }
 }

@@ -7,3 +7,5 @@ mod images;
 #[cfg(test)]
 mod scripts;
 mod stamping;
+
+pub use stamping::{stamp, stamp_bytes, stamp_layers};

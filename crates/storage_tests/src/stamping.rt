@@ -4,26 +4,26 @@ ghost use Rattle.dynamic_storage.specs.declared.condition.Stage.TheVariants as s
 ghost use Rattle.storage_backings.specs.Bytes.{odd_bytes};
 
 use dynamic_storage::{DynamicStorage, Stage};
-use script::call::StorageCall;
+use script::call::Call;
 use session::perform_on;
 use storage_backings::BorrowedBytes;
 use storage_layers::{ByteSwapped, Window};
 
 /// Sets a storage up with two words, and writes past its end, by the calls that the program makes.
-pub(crate) fn stamp<S: DynamicStorage>(storage: &mut S)
+pub fn stamp<S: DynamicStorage>(storage: &mut S)
     ensures words { S.DynamicStorage.words storage.new ≡ slice_set (slice_set (slice_set (S.DynamicStorage.words storage.old) 0 72623859790382856) 1 255) 18446744073709551615 7 }
     ensures outside { S.DynamicStorage.outside storage.new ≡ S.DynamicStorage.outside storage.old }
 {
-    let _ = perform_on(storage, StorageCall::SetCondition(Stage::Forming));
-    let _ = perform_on(storage, StorageCall::Write(0, 0x0102_0304_0506_0708));
-    let _ = perform_on(storage, StorageCall::Write(1, 255));
-    let _ = perform_on(storage, StorageCall::Write(u64::MAX, 7));
-    let _ = perform_on(storage, StorageCall::SetCondition(Stage::Ready));
+    let _ = perform_on(storage, Call::SetCondition(Stage::Forming));
+    let _ = perform_on(storage, Call::Write(0, 0x0102_0304_0506_0708));
+    let _ = perform_on(storage, Call::Write(1, 255));
+    let _ = perform_on(storage, Call::Write(u64::MAX, 7));
+    let _ = perform_on(storage, Call::SetCondition(Stage::Ready));
 }
 
 /// The same in a window of borrowed bytes with reversed words: it is the same memory afterwards, and its odd bytes are as
 /// they were.
-pub(crate) fn stamp_layers(bytes: BorrowedBytes<'_>, place: u64, count: u64) -> BorrowedBytes<'_>
+pub fn stamp_layers(bytes: BorrowedBytes<'_>, place: u64, count: u64) -> BorrowedBytes<'_>
     ensures odd { odd_bytes result.memory.now ≡ odd_bytes bytes.entry.memory.now }
     ensures lent { result.memory.ghost_name ≡ bytes.entry.memory.ghost_name }
 {
@@ -33,7 +33,7 @@ pub(crate) fn stamp_layers(bytes: BorrowedBytes<'_>, place: u64, count: u64) -> 
 }
 
 /// What the lender of the bytes finds: its odd bytes as they were.
-pub(crate) fn stamp_bytes(memory: &mut [u8])
+pub fn stamp_bytes(memory: &mut [u8])
     ensures { odd_bytes memory.new ≡ odd_bytes memory.old }
 {
     let mut bytes = BorrowedBytes::new(memory);

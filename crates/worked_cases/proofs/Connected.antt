@@ -5,7 +5,7 @@ use Rattle.dynamic_storage.specs.declared.condition.Condition.TheVariants.{Absen
 use Rattle.connection_words.specs.declared.settings.Settings.{Settings}
 use Rattle.connection_words.specs.Settings.{too_small, too_large}
 use Rattle.connection_words.specs.Places.{needed}
-use Rattle.connection_types.specs.declared.port.Port.{Port}
+use Rattle.connection_ports.specs.declared.port.Port.{Port}
 use Rattle.connection_ports.specs.Fresh.{fresh_words}
 use Rattle.connection_ports.specs.Creation.{creation_refusal, creation_words, creation_condition}
 use Rattle.connection_ports.specs.Laws.{other, BothOrders}

@@ -6,7 +6,7 @@ use Rattle.connection_words.specs.declared.settings.Settings.{Settings}
 use Rattle.connection_words.specs.Settings.{completions}
 use Rattle.connection_words.specs.Places.{needed}
 use Rattle.connection_words.specs.Laws.{settings_with}
-use Rattle.connection_types.specs.declared.port.Port.{Port}
+use Rattle.connection_ports.specs.declared.port.Port.{Port}
 use Rattle.connection_ports.specs.Creation.{creation_refusal}
 use Rattle.zero_copy_connection.specs.Answers.{refused, nothing, value}
 use Rattle.channel_laws.specs.Calls.{Call, sends, receives, releases, reclaims}

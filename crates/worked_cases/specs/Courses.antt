@@ -7,7 +7,7 @@ use Rattle.connection_words.specs.Places.{needed, submission_of, completion_of}
 use Rattle.connection_words.specs.Soundness.{settings_of}
 use Rattle.connection_words.specs.Queues.{entries}
 use Rattle.connection_words.specs.Chunks.{size_for, mark_of, is_used}
-use Rattle.connection_types.specs.declared.port.Port.{Port}
+use Rattle.connection_ports.specs.declared.port.Port.{Port}
 use Rattle.connection_ports.specs.Creation.{creation_refusal, creation_words, creation_condition}
 use Rattle.connection_ports.specs.Laws.{other}
 use Rattle.zero_copy_connection.specs.Answers.{Answer}

@@ -1,10 +1,11 @@
 ghost use Rattle.std.specs.Prelude.{◌≡◌};
-ghost use Rattle.connection_types.specs.CallNumbers.{channel_number};
+ghost use Rattle.zero_copy_connection.specs.Numbers.{channel_number};
 ghost use Rattle.zero_copy_connection.specs.Answers.{answer_of, flag, number};
 ghost use Rattle.zero_copy_connection.specs.Receiving.{has_data_answer, borrow_count_answer};
 
+use crate::ChannelError;
 use crate::common::open_channel;
-use connection_types::{BorrowCounters, ChannelError};
+use connection_ports::BorrowCounters;
 use dynamic_storage::DynamicStorage;
 
 /// Whether a value waits to be received on a channel.

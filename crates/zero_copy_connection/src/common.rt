@@ -1,14 +1,20 @@
 ghost use Rattle.std.specs.Prelude.{◌≡◌, true, IfOk};
 ghost use Rattle.connection_words.specs.Soundness.{settings_of};
 ghost use Rattle.connection_ports.specs.Creation.{channel_sound};
-ghost use Rattle.connection_types.specs.Numbers.{refused_by};
-ghost use Rattle.connection_types.specs.CallNumbers.{channel_number};
+ghost use Rattle.connection_ports.specs.Numbers.{refused_by};
+ghost use Rattle.zero_copy_connection.specs.Numbers.{channel_number};
 ghost use Rattle.zero_copy_connection.specs.Checks.{channel_refusal};
 
-use connection_ports::is_channel_sound;
-use connection_types::ChannelError;
+use crate::ChannelError;
 use connection_words::{Channel, layout_of};
 use dynamic_storage::DynamicStorage;
+
+/// Whether both queues of a channel are sound.
+fn are_queues_sound<S: DynamicStorage>(storage: &S, channel: &Channel) -> bool
+    ensures { result ≡ channel_sound (S.DynamicStorage.words storage.now) channel.now.settings channel.now.index }
+{
+    channel.submission().is_sound(storage) && channel.completion().is_sound(storage)
+}
 
 /// The channel that a call names, if the words are a connection with such a channel and sound queues.
 pub fn open_channel<S: DynamicStorage>(storage: &S, channel: u64) -> Result<Channel, ChannelError>
@@ -23,7 +29,7 @@ pub fn open_channel<S: DynamicStorage>(storage: &S, channel: u64) -> Result<Chan
     let Some(opened) = layout.channel(channel) else {
         return Err(ChannelError::BadChannel);
     };
-    if !is_channel_sound(storage, &opened) {
+    if !are_queues_sound(storage, &opened) {
         return Err(ChannelError::Unsound);
     }
     Ok(opened)

@@ -1,10 +1,11 @@
 ghost use Rattle.std.specs.Prelude.{◌≡◌};
-ghost use Rattle.connection_types.specs.CallNumbers.{receive_number, release_number};
+ghost use Rattle.zero_copy_connection.specs.Numbers.{receive_number, release_number};
 ghost use Rattle.zero_copy_connection.specs.Answers.{answer_of, optional, done};
 ghost use Rattle.zero_copy_connection.specs.Receiving.{receive_answer, receive_words, receive_counts, release_answer, release_words, release_counts};
 
 use crate::common::open_channel;
-use connection_types::{BorrowCounters, ZeroCopyReceiveError, ZeroCopyReleaseError};
+use crate::{ZeroCopyReceiveError, ZeroCopyReleaseError};
+use connection_ports::BorrowCounters;
 use dynamic_storage::DynamicStorage;
 use shm_allocator::PointerOffset;
 

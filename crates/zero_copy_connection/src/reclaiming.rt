@@ -1,12 +1,12 @@
 ghost use Rattle.std.specs.Prelude.{◌≡◌};
-ghost use Rattle.connection_types.specs.CallNumbers.{reclaim_number};
+ghost use Rattle.zero_copy_connection.specs.Numbers.{reclaim_number};
 ghost use Rattle.zero_copy_connection.specs.Answers.{answer_of, optional};
 ghost use Rattle.zero_copy_connection.specs.Sending.{reclaim_answer, reclaim_words};
 
+use crate::ZeroCopyReclaimError;
 use crate::common::open_channel;
 use crate::mark::Mark;
 use crate::used_chunk_list::change_mark;
-use connection_types::ZeroCopyReclaimError;
 use dynamic_storage::DynamicStorage;
 
 /// Takes the value back that was released first on a channel, if one was, and frees its chunk.

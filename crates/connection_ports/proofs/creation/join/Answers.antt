@@ -1,5 +1,5 @@
 use Rattle.std.proofs.Common.{◌≡◌, ◌+◌, ◌-◌, ◌^◌, min, get_or, refl, ap, ◌∙◌}
-use Rattle.connection_types.specs.Numbers.{bit_of}
+use Rattle.connection_ports.specs.Numbers.{bit_of}
 use Rattle.connection_ports.proofs.Joins.{joined_is}
 use Rattle.connection_ports.proofs.creation.join.Goals as goal
 

@@ -1,5 +1,5 @@
 use Rattle.std.proofs.Common.{rules}
-use Rattle.connection_types.specs.declared.port.Port.TheVariants as port
+use Rattle.connection_ports.specs.declared.port.Port.TheVariants as port
 use Rattle.history_run.proofs.Opening.{other_some, opened_to}
 use Rattle.history_run.proofs.ports.create_sender_first.Goals as goal
 

@@ -1,0 +1,79 @@
+ghost use Rattle.std.specs.Prelude.{◌≡◌};
+ghost use Rattle.connection_ports.specs.Numbers.{creation_number, as_creation, close_number, state_number, bit_of};
+
+use crate::{
+    ChannelStateNewError, DynamicStorageOpenError, Port, PortCloseError, ZeroCopyCreationError,
+};
+
+impl ZeroCopyCreationError {
+    pub fn number(self) -> u64
+        ensures { result ≡ creation_number self }
+    {
+        match self {
+            ZeroCopyCreationError::SettingTooLarge => 1,
+            ZeroCopyCreationError::RoomTooSmall => 2,
+            ZeroCopyCreationError::InitializationNotYetFinalized(_) => 3,
+            ZeroCopyCreationError::VersionMismatch(_) => 4,
+            ZeroCopyCreationError::InternalError(_) => 5,
+            ZeroCopyCreationError::ConnectionMaybeCorrupted => 6,
+            ZeroCopyCreationError::AnotherInstanceIsAlreadyConnected => 7,
+            ZeroCopyCreationError::IsBeingCleanedUp => 8,
+            ZeroCopyCreationError::IncompatibleBufferSize => 9,
+            ZeroCopyCreationError::IncompatibleMaxBorrowedSamplesPerChannelSetting => 10,
+            ZeroCopyCreationError::IncompatibleOverflowSetting => 11,
+            ZeroCopyCreationError::IncompatibleNumberOfSamples => 12,
+            ZeroCopyCreationError::IncompatibleNumberOfSegments => 13,
+            ZeroCopyCreationError::IncompatibleNumberOfChannels => 14,
+        }
+    }
+}
+
+impl From<DynamicStorageOpenError> for ZeroCopyCreationError {
+    ghost from_gives = { λ fault error. error ≡ as_creation fault };
+
+    fn from(fault: DynamicStorageOpenError) -> ZeroCopyCreationError {
+        match fault {
+            DynamicStorageOpenError::InitializationNotYetFinalized => {
+                ZeroCopyCreationError::InitializationNotYetFinalized(fault)
+            }
+            DynamicStorageOpenError::VersionMismatch => ZeroCopyCreationError::VersionMismatch(
+                fault,
+            ),
+            DynamicStorageOpenError::DoesNotExist | DynamicStorageOpenError::InternalError => {
+                ZeroCopyCreationError::InternalError(fault)
+            }
+        }
+    }
+}
+
+impl PortCloseError {
+    pub fn number(self) -> u64
+        ensures { result ≡ close_number self }
+    {
+        match self {
+            PortCloseError::Unsound => 50,
+        }
+    }
+}
+
+impl ChannelStateNewError {
+    pub fn number(self) -> u64
+        ensures { result ≡ state_number self }
+    {
+        match self {
+            ChannelStateNewError::ValueOutOfBounds => 52,
+        }
+    }
+}
+
+impl Port {
+    /// The bit of the port in the port state.
+    pub fn bit(self) -> u64
+        ensures { result ≡ bit_of self }
+    {
+        match self {
+            Port::Sender => 1,
+            Port::Receiver => 2,
+        }
+    }
+}
