@@ -108,6 +108,6 @@ returns-in-51 c = listed c.in-51.is
 pub returns-in-52 : goal.returns-in-52
 returns-in-52 c = listed c.in-52.is
 
-pub returns-in-default : goal.returns-in-default
+pub returns-in_default : goal.returns-in_default
 unfolding name_of
-returns-in-default c = search rules
+returns-in_default c = search rules

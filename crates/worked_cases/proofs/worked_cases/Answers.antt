@@ -14,8 +14,8 @@ returns c =
     record {
       value_made = refl;
       value_apart = (refl, refl);
-      capacity = c.small-connection.ensures.small_completions false;
-      words = c.small-connection.ensures.small_needed false;
+      capacity = c.small_connection.ensures.small_completions false;
+      words = c.small_connection.ensures.small_needed false;
       too_short = λ p before e. c.small_room.ensures.refused p false before e;
       long_enough = λ p before e. c.small_room.ensures.accepted p false before e;
       last_sample =

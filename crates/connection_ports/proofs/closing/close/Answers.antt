@@ -11,10 +11,10 @@ returns g c =
     let words = g.S.DynamicStorage.words c.args.storage.now in
     let k = g.S.DynamicStorage.condition c.args.storage.now in
     let bit = bit_of c.args.token.port in
-    let left = c.state-without-left.result in
-    let good : sound k words ≡ true = sym c.if-not-is-sound.ensures in
+    let left = c.state_without-left.result in
+    let good : sound k words ≡ true = sym c.if-not-is_sound.ensures in
     let is : left ≡ state_left bit words =
-    c.state-without-left.ensures ∙ (ap (λ b. state_without b c.word.result) c.bit.ensures ∙ ap (state_without bit) c.word.ensures) in
+    c.state_without-left.ensures ∙ (ap (λ b. state_without b c.word.result) c.bit.ensures ∙ ap (state_without bit) c.word.ensures) in
     record {
       answer = rw good;
       state = is;

@@ -3,4 +3,4 @@ use Rattle.connection_words.proofs.Apart.{details_end}
 use Rattle.connection_words.proofs.places.words_needed.Goals as goal
 
 pub returns : goal.returns
-returns c = c.detail-place.ensures ∙ details_end c.args.settings
+returns c = c.detail_place.ensures ∙ details_end c.args.settings

@@ -5,14 +5,14 @@ use Rattle.history_run.proofs.ports.create_sender_first.Goals as goal
 
 pub unreachable-requires : goal.unreachable-requires
 unreachable-requires g c =
-    other_some port.Sender c.args.settings c.args.state.0 _ _ _ _ c.requires c.in-ok-sender.ensures.answer
-    c.create-sender.ensures.condition c.create-sender.ensures.words _ c.in-default.ensures.answer
+    other_some port.Sender c.args.settings c.args.state.0 _ _ _ _ c.requires c.in_ok-sender.ensures.answer
+    c.create_sender.ensures.condition c.create_sender.ensures.words _ c.in_default.ensures.answer
 
 pub returns : goal.returns
 returns g c =
     record {
-      answer = c.in-ok-sender.ensures.answer;
-      leaves = opened_to port.Sender c.args.settings c.args.state.0 _ _ _ _ c.requires c.in-ok-sender.ensures.answer c.create-sender.ensures.condition c.create-sender.ensures.words _ _ c.create-receiver.ensures.condition c.create-receiver.ensures.words;
+      answer = c.in_ok-sender.ensures.answer;
+      leaves = opened_to port.Sender c.args.settings c.args.state.0 _ _ _ _ c.requires c.in_ok-sender.ensures.answer c.create_sender.ensures.condition c.create_sender.ensures.words _ _ c.create_receiver.ensures.condition c.create_receiver.ensures.words;
       ports = search rules;
       outside = search rules;
     }

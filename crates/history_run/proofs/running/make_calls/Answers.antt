@@ -5,7 +5,7 @@ use Rattle.history_run.proofs.running.make_calls.Goals as goal
 
 pub loop-call-preserved : goal.loop-call-preserved
 loop-call-preserved g c = (
-  course_push (next g.P.BackpressurePolicy.acts) (told g.P.BackpressurePolicy.acts) _ _ _ _ _ _ _ _ _ c.loop-call-test.true c.call-item.is c.push-reserved.ensures.items c.loop-call.invariant.0 c.perform.ensures.answer c.perform.ensures.leaves,
+  course_push (next g.P.BackpressurePolicy.acts) (told g.P.BackpressurePolicy.acts) _ _ _ _ _ _ _ _ _ c.loop-call-test.true c.call-item.is c.push_reserved.ensures.items c.loop-call.invariant.0 c.perform.ensures.answer c.perform.ensures.leaves,
   omega arith,
   omega arith,
   c.perform.ensures.outside ∙ c.loop-call.invariant.3,

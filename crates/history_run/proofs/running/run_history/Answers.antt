@@ -6,15 +6,15 @@ use Rattle.history_run.proofs.running.run_history.Goals as goal
 pub returns : goal.returns
 returns g c =
     let made = c.in-Ok.ensures in
-    let k = c.make-calls-answers.auto in
-    let e = c.as-mut-slice.ensures.value in
-    let l = c.as-mut-slice.ensures.len in
+    let k = c.make_calls-answers.auto in
+    let e = c.as_mut_slice.ensures.value in
+    let l = c.as_mut_slice.ensures.len in
     record {
       ran =
           ran_from g.P.BackpressurePolicy.acts c.args.first c.args.settings c.args.state.0 _ _ made.leaves.0 _ _ _ _ _ _ _ _ _
-          made.ports.2 (e ∙ c.in-ok-answers.ensures.slots) made.leaves.1
-          (with_items_is c.in-ok-answers.field-0.waits c.make-calls-answers.new.waits (k.waits ∙ l)) c.make-calls-answers.ensures.course;
+          made.ports.2 (e ∙ c.in_ok-answers.ensures.slots) made.leaves.1
+          (with_items_is c.in_ok-answers.field-0.waits c.make_calls-answers.new.waits (k.waits ∙ l)) c.make_calls-answers.ensures.course;
       ports = (made.ports.0, made.ports.1);
       left = tt;
-      outside = c.make-calls-answers.ensures.outside ∙ made.outside;
+      outside = c.make_calls-answers.ensures.outside ∙ made.outside;
     }

@@ -6,5 +6,5 @@ use Rattle.script.proofs.words.is.Goals as goal
 pub returns : goal.returns
 returns c =
     same_from_decides c.eq.result (bytes_eq c.args.word.now c.args.name.now)
-    (rw c.as-bytes.ensures.value at (slice_eq-Decides Decides-eqb c.args.word.now c.as-bytes.result.now c.eq.result c.eq.ensures))
+    (rw c.as_bytes.ensures.value at (slice_eq-Decides Decides-eqb c.args.word.now c.as_bytes.result.now c.eq.result c.eq.ensures))
     (bytes_eq-Decides c.args.word.now c.args.name.now)

@@ -4,4 +4,4 @@ use Rattle.storage_backings.proofs.borrowed_bytes.store_bytes.Goals as goal
 
 pub returns : goal.returns
 returns c =
-    stored_is _ _ _ _ _ (omega (arith, c.requires)) (omega arith) (c.copy-from-slice.ensures.after ∙ c.to-le-bytes.ensures) (omega arith)
+    stored_is _ _ _ _ _ (omega (arith, c.requires)) (omega arith) (c.copy_from_slice.ensures.after ∙ c.to_le_bytes.ensures) (omega arith)

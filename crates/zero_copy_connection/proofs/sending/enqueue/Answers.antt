@@ -10,7 +10,7 @@ returns g c =
     let s = c.args.channel.now.settings in
     let i = c.args.channel.now.index in
     let q = c.submission-waiting.result in
-    let full = sym c.if-not-is-full.ensures in
+    let full = sym c.if-not-is_full.ensures in
     record {
       answer = evict_answer words now next s i c.args.value q.ring q.placed c.submission-waiting.ensures c.requires full c.pop-oldest.result c.pop-oldest.ensures.answer;
       words = evict_words words now next s i c.args.value q.ring q.placed c.submission-waiting.ensures c.requires full c.pop-oldest.ensures.words c.push-2.ensures.words;

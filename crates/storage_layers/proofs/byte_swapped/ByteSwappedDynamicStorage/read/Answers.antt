@@ -4,7 +4,7 @@ use Rattle.storage_layers.proofs.byte_swapped.ByteSwappedDynamicStorage.read.Goa
 
 pub returns-in-Some : goal.returns-in-Some
 unfolding reversed
-returns-in-Some g c = read_some _ _ _ _ c.in-Some.ensures c.swap-bytes.ensures
+returns-in-Some g c = read_some _ _ _ _ c.in-Some.ensures c.swap_bytes.ensures
 
 pub returns-in-None : goal.returns-in-None
 returns-in-None g c = read_none _ _ c.in-None.ensures

@@ -9,7 +9,7 @@ unfolding reversed
 returns g c =
     record {
       answer = simp length-map c.write.ensures.answer;
-      words = rw (c.write.ensures.words, c.swap-bytes.ensures) (map_written (g.S.DynamicStorage.words c.args.self.now.below) c.args.place c.args.word (omega arith));
+      words = rw (c.write.ensures.words, c.swap_bytes.ensures) (map_written (g.S.DynamicStorage.words c.args.self.now.below) c.args.place c.args.word (omega arith));
       condition = search rules;
       outside = search rules;
     }

@@ -4,8 +4,8 @@ use Rattle.dynamic_storage.specs.Codes.{stated_at, code_of}
 use Rattle.storage_layers.proofs.Windows.{coded_answer, coded_words, coded_condition, coded_around}
 use Rattle.storage_layers.proofs.window.WindowDynamicStorage.set_condition.Goals as goal
 
-pub returns-then-is-settable : goal.returns-then-is-settable
-returns-then-is-settable g c =
+pub returns-then-is_settable : goal.returns-then-is_settable
+returns-then-is_settable g c =
     let ws = g.S.DynamicStorage.words c.args.self.now.below in
     let place = c.args.self.now.place in
     let count = c.args.self.now.count in
