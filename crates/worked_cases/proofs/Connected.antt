@@ -13,7 +13,7 @@ use Rattle.connection_ports.proofs.Orders.{both_orders}
 use Rattle.zero_copy_connection.specs.Answers.{Answer}
 use Rattle.channel_laws.specs.Calls.{State, state_of, Call}
 use Rattle.worked_cases.specs.Courses.{with_port, with_one, connected, answers_of, after_all, Course}
-use Rattle.worked_cases.proofs.Goes.{Goes, answers_of, after_all_lem}
+use Rattle.worked_cases.proofs.Goes.{Goes, answers_of_lem, after_all_lem}
 
 -- what both creations leave
 abbrev pub new : Settings → List ℕ → State
@@ -39,6 +39,6 @@ course {p} {s} {before} {calls} {answers} {Ends} low high room u goes ends =
     record {
       first = orders.first p;
       second = subst (λ (k : Condition). creation_refusal (other p) s k (with_one p s before).words ≡ None) (sym (ready p s before orders)) (orders.second p);
-      answer = ap (λ (t : State). answers_of t calls) e ∙ answers_of goes;
+      answer = ap (λ (t : State). answers_of t calls) e ∙ answers_of_lem goes;
       ends = subst (λ (t : State). Ends t (after_all t calls)) (sym e) (subst (Ends (new s before)) (sym (after_all_lem goes)) ends);
     }

@@ -9,9 +9,9 @@ pub data Goes : State → List Call → List Answer → State → Type 0 where
   go : {t w : State} {x : Call} {xs : List Call} {a : Answer} {answers : List Answer} (u : State)
       → answered t x ≡ a → after t x ≡ u → Goes u xs answers w → Goes t (x ∷ xs) (a ∷ answers) w
 
-pub answers_of : {t w : State} {xs : List Call} {answers : List Answer} → Goes t xs answers w → answers_of t xs ≡ answers
-answers_of stop = refl
-answers_of (go u p q r) = rw (p, q, answers_of r)
+pub answers_of_lem : {t w : State} {xs : List Call} {answers : List Answer} → Goes t xs answers w → answers_of t xs ≡ answers
+answers_of_lem stop = refl
+answers_of_lem (go u p q r) = rw (p, q, answers_of_lem r)
 
 pub after_all_lem : {t w : State} {xs : List Call} {answers : List Answer} → Goes t xs answers w → after_all t xs ≡ w
 after_all_lem stop = refl

@@ -18,7 +18,7 @@ returns-in_default g c =
 pub invariant_of-put_at : goal.invariant_of-put_at
 invariant_of-put_at g c =
     let kept = step_falls (g.S.DynamicStorage.condition c.args.storage.now) (g.S.DynamicStorage.words c.args.storage.now) (pending_in c.in-Some.pending) (view_of c.in-Pending.waiting) _ (sym c.in-Pending.ensures.outcome) in
-    (kept.1.0 ∙ c.in-Some.pending.sends, (kept.1.2 ∙ c.in-Some.pending.on, tt))
+    record { sends = kept.1.0 ∙ c.in-Some.pending.sends; on = kept.1.2 ∙ c.in-Some.pending.on }
 
 pub returns-in-Pending : goal.returns-in-Pending
 returns-in-Pending g c =
