@@ -10,7 +10,7 @@ returns-then-i-answers g c = λ same. absurd (omega (arith, same, c.if-i-answers
 pub loop-i-preserved : goal.loop-i-preserved
 loop-i-preserved g c = λ same.
     tallied_more c.args.channel c.args.calls.now c.args.answers.now c.loop-i.i c.index-calls-i.result _ empty _ _
-    c.loop-i-test.true (omega (arith, same, c.loop-i-test.true)) c.index-calls-i.is (c.loop-i.invariant same) c.in-ok-add.ensures
+    c.loop-i-test.true (omega (arith, same, c.loop-i-test.true)) c.index-calls-i.is (c.loop-i.invariant same) c.in_ok-add.ensures
 
 pub returns : goal.returns
 returns g c = λ same.
