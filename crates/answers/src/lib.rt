@@ -1,4 +1,5 @@
 //! The names of the answers of a connection.
+#![tactic(auto)]
 
 ghost use Rattle.std.specs.Prelude.{◌≡◌, ℕ, ◌≤◌, [], ◌++◌, length, drop, ◌≢◌};
 ghost use Rattle.answers.specs.Names.{name_of};

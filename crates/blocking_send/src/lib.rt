@@ -1,4 +1,5 @@
 //! Sends that wait for room, step by step, as a policy says.
+#![tactic(auto)]
 
 mod action;
 mod error;

@@ -1,4 +1,5 @@
 //! What holds of the calls on a channel as a whole.
+#![tactic(auto)]
 
 mod laws;
 

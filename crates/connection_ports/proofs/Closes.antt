@@ -1,5 +1,5 @@
 -- What a close leaves, from what its steps tell.
-use Rattle.std.proofs.Common.{◌≡◌, ℕ, Bool, true, false, cond, ◌&&◌, eqb, List, set, sym, refl, ap, ◌∙◌}
+use Rattle.std.proofs.Common.{◌≡◌, ℕ, true, cond, eqb, List, set, refl, ◌∙◌}
 use Rattle.dynamic_storage.specs.Meaning.{after_asking}
 use Rattle.dynamic_storage.specs.declared.condition.Condition.{Condition}
 use Rattle.dynamic_storage.specs.declared.condition.Condition.TheVariants.{Absent, Forming, Ready, Broken, OtherVersion}

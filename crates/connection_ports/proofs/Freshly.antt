@@ -1,16 +1,14 @@
 -- The words of a connection that was just created.
-use Rattle.std.proofs.Common.{◌≡◌, ℕ, zero, suc, ◌+◌, ◌-◌, ◌*◌, ◌%◌, ◌<◌, ◌≤◌, Bool, true, false, cond, not, ◌&&◌, ◌||◌, eqb, ltb, leb, ◌≢◌, List, ◌++◌, map, length, get_or, drop, set, sym, refl, ap, ◌∙◌, ⊎_elim, zero-add, arith, ne_eqb}
+use Rattle.std.proofs.Common.{◌≡◌, ℕ, ◌+◌, ◌-◌, ◌*◌, ◌%◌, ◌<◌, ◌≤◌, Bool, true, false, cond, ◌&&◌, eqb, ltb, List, map, length, get_or, drop, refl, ap, ◌∙◌, zero-add, arith, ne_eqb}
 use Rattle.std.specs.List.{range_with_len}
-use Rattle.std.proofs.lemmas.Bool.Decides.{nat_tests}
-use Rattle.std.proofs.lemmas.Bool.{cases_eq, cases_lt}
 use Rattle.std.proofs.lemmas.Nat.{mod-mul-add}
-use Rattle.std.proofs.lemmas.List.{get_or_append_left, get_or-append_right, length-append, length-drop, length-set, get_or-set_same, get_or-set_other, ext_get_or}
+use Rattle.std.proofs.lemmas.List.{get_or_append_left, length-append, length-drop}
 use Rattle.std.proofs.lemmas.List.FromFn.{length-map-range_with_len, get_or-map-range_with_len}
 use Rattle.connection_words.specs.declared.settings.Settings.{Settings}
-use Rattle.connection_words.specs.Settings.{Limits, channels, too_small, too_large, completions}
+use Rattle.connection_words.specs.Settings.{channels}
 use Rattle.connection_words.specs.Places.{stride, channel_at, needed}
 use Rattle.connection_words.specs.Soundness.{settings_of}
-use Rattle.connection_words.proofs.Apart.{header_first, channels_first, details_end}
+use Rattle.connection_words.proofs.Apart.{channels_first, details_end}
 use Rattle.connection_ports.specs.Fresh.{fresh_word, fresh_words, body_word}
 
 none_of : (b : Bool) (x : ℕ) → cond (b && false) x 0 ≡ 0

@@ -1,8 +1,7 @@
 -- A refusal leaves everything as it was.
-use Rattle.std.proofs.Common.{◌≡◌, ℕ, Bool, true, false, cond, ◌&&◌, List, Some, None, Option, sym, refl, ap, ◌∙◌}
+use Rattle.std.proofs.Common.{◌≡◌, ℕ, Bool, true, false, cond, Some, None, refl}
 use Rattle.connection_words.specs.Soundness.{sound}
-use Rattle.connection_ports.specs.Closing.{closed_words, closed_condition}
-use Rattle.connection_ports.specs.Laws.{PortCall, creates, closes, RefusalsLeave}
+use Rattle.connection_ports.specs.Laws.{creates, closes, RefusalsLeave}
 
 refused_false : (b : Bool) (n : ℕ) → cond b None (Some 50) ≡ Some n → b ≡ false
 refused_false true n e = cc

@@ -1,24 +1,23 @@
 -- The two ports created one after the other.
-use Rattle.std.proofs.Common.{◌≡◌, ℕ, zero, suc, ◌+◌, ◌-◌, ◌<◌, ◌≤◌, Bool, true, false, cond, not, ◌&&◌, ◌||◌, eqb, ltb, leb, List, ◌++◌, map, length, get_or, drop, set, Some, None, Option, sym, refl, ap, ◌∙◌, ⊎_elim, add_assoc, arith, eq-eqb, ne_eqb}
+use Rattle.std.proofs.Common.{◌≡◌, ℕ, zero, suc, ◌+◌, ◌-◌, ◌<◌, ◌≤◌, Bool, true, false, cond, not, ◌&&◌, eqb, ltb, leb, List, map, length, get_or, drop, set, Some, None, Option, sym, refl, ap, ◌∙◌, ⊎_elim, add_assoc, arith, eq-eqb, ne_eqb}
 use Rattle.std.specs.List.{range_with_len}
 use Rattle.std.proofs.lemmas.Bool.Decides.{nat_tests}
 use Rattle.std.proofs.lemmas.Bool.{cases_eq, cases_lt}
-use Rattle.std.proofs.lemmas.List.{get_or-append_right, length-append, length-drop, length-set, get_or-set_same, get_or-set_other, ext_get_or}
+use Rattle.std.proofs.lemmas.List.{get_or-append_right, length-set, get_or-set_same, get_or-set_other, ext_get_or}
 use Rattle.std.proofs.lemmas.List.FromFn.{length-map-range_with_len}
-use Rattle.dynamic_storage.specs.declared.condition.Condition.{Condition}
 use Rattle.dynamic_storage.specs.declared.condition.Condition.TheVariants.{Absent, Ready}
 use Rattle.connection_words.specs.declared.settings.Settings.{Settings}
 use Rattle.connection_words.specs.declared.ring.Ring.{Ring}
 use Rattle.connection_words.specs.Settings.{buffer, borrowed, samples, segments, channels, too_small, too_large, completions}
-use Rattle.connection_words.specs.Places.{stride, channel_at, needed, submission_of, completion_of}
+use Rattle.connection_words.specs.Places.{channel_at, needed, submission_of, completion_of}
 use Rattle.connection_words.specs.Soundness.{sound, settings_of, port_state}
 use Rattle.connection_words.specs.Queues.{start, count, queue_sound}
 use Rattle.connection_ports.specs.declared.port.Port.{Port}
 use Rattle.connection_ports.specs.declared.port.Port.TheVariants as port
 use Rattle.connection_ports.specs.Numbers.{bit_of}
 use Rattle.connection_ports.specs.Fresh.{fresh_word, fresh_words, overflow_word}
-use Rattle.connection_ports.specs.Creation.{channel_sound, queues_sound, whole, holds, same, mismatch, join_refusal, joined, creation_refusal, creation_words}
-use Rattle.connection_ports.specs.Laws.{other, BothOrders, OrdersAgree}
+use Rattle.connection_ports.specs.Creation.{channel_sound, queues_sound, whole, holds, same, mismatch, join_refusal, creation_refusal, creation_words}
+use Rattle.connection_ports.specs.Laws.{other, OrdersAgree}
 use Rattle.connection_ports.proofs.Freshly.{fresh_at, fresh_length, fresh_zero, fresh_header, fresh_settings}
 
 all_true : (a b : Bool) → a ≡ true → b ≡ true → a && b ≡ true

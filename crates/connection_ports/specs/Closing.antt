@@ -1,5 +1,5 @@
 -- What closing a port answers and leaves.
-use Rattle.std.specs.Prelude.{ℕ, ◌-◌, Bool, cond, ◌&&◌, List, ◌==◌, slice_index, slice_set}
+use Rattle.std.specs.Prelude.{ℕ, ◌-◌, cond, ◌&&◌, List, ◌==◌, slice_index, slice_set}
 use Rattle.dynamic_storage.specs.declared.condition.Condition.{Condition}
 use Rattle.dynamic_storage.specs.declared.condition.Condition.TheVariants.{Absent}
 use Rattle.connection_words.specs.Soundness.{sound}

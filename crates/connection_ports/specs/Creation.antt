@@ -1,9 +1,9 @@
 -- When the creation of a port is refused, and what it leaves.
-use Rattle.std.specs.Prelude.{ℕ, zero, suc, ◌+◌, Bool, true, false, cond, not, ◌&&◌, ◌||◌, List, length, set, Some, None, Ok, Err, Option, Result, ◌==◌, nat_lt, slice_index, slice_set}
+use Rattle.std.specs.Prelude.{ℕ, zero, suc, ◌+◌, Bool, true, false, cond, not, ◌&&◌, ◌||◌, List, length, Some, None, Ok, Err, Option, Result, ◌==◌, nat_lt, slice_index, slice_set}
 use Rattle.dynamic_storage.specs.declared.condition.Condition.{Condition}
 use Rattle.dynamic_storage.specs.declared.condition.Condition.TheVariants.{Absent, Forming, Ready, Broken, OtherVersion}
 use Rattle.connection_words.specs.declared.settings.Settings.{Settings}
-use Rattle.connection_words.specs.Settings.{buffer, borrowed, samples, segments, channels, too_large, raised}
+use Rattle.connection_words.specs.Settings.{buffer, borrowed, samples, segments, channels, too_large}
 use Rattle.connection_words.specs.Places.{needed, submission_of, completion_of}
 use Rattle.connection_words.specs.Soundness.{sound, settings_of}
 use Rattle.connection_words.specs.Queues.{queue_sound}

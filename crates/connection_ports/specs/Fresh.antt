@@ -1,5 +1,5 @@
 -- The words of a connection that was just created.
-use Rattle.std.specs.Prelude.{ℕ, ◌+◌, ◌-◌, ◌*◌, ◌%◌, Bool, true, false, cond, ◌&&◌, List, ◌++◌, map, length, drop, ◌==◌, nat_lt}
+use Rattle.std.specs.Prelude.{ℕ, ◌+◌, ◌-◌, ◌*◌, ◌%◌, cond, ◌&&◌, List, ◌++◌, map, drop, ◌==◌, nat_lt}
 use Rattle.std.specs.List.{range_with_len}
 use Rattle.connection_words.specs.declared.settings.Settings.{Settings}
 use Rattle.connection_words.specs.Settings.{buffer, borrowed, samples, segments, channels, completions}

@@ -1,4 +1,5 @@
 //! The two ports of a connection: their creation over a storage, and their end.
+#![tactic(auto)]
 
 mod borrow_counters;
 mod channel_state;

@@ -1,9 +1,9 @@
 -- What a change of one queue leaves of the connection.
-use Rattle.std.proofs.Common.{◌≡◌, ℕ, ◌+◌, ◌<◌, ◌≤◌, ◌≢◌, ◌⊎◌, List, get_or, ⊎_elim, arith}
+use Rattle.std.proofs.Common.{◌≡◌, ℕ, ◌<◌, ◌≤◌, List, ⊎_elim, arith}
 use Rattle.std.proofs.lemmas.Bool.{cases_order}
 use Rattle.connection_words.specs.declared.settings.Settings.{Settings}
 use Rattle.connection_words.specs.Settings.{Limits, channels}
-use Rattle.connection_words.specs.Places.{channel_at, state_at, size_at, mark_at, stride}
+use Rattle.connection_words.specs.Places.{channel_at, state_at, size_at, mark_at}
 use Rattle.connection_words.specs.Queues.{Belongs, pushed, popped}
 use Rattle.connection_words.specs.Laws.{Side, queue_of, SameAt, OthersStay, OthersAllStay}
 use Rattle.connection_words.proofs.Apart.{header_first, channels_apart, channels_first, queue_inside, queues_apart, queues_placed}

@@ -1,4 +1,5 @@
 //! The words of a connection: what its settings are, where its parts stand, and its queues.
+#![tactic(auto)]
 
 mod channel;
 mod laws;

@@ -1,4 +1,5 @@
 //! Words of 64 bits that any part of a connection can live in, behind one interface.
+#![tactic(auto)]
 
 ghost use Rattle.std.specs.Prelude.{◌≡◌, ℕ, List, length, slice_set};
 ghost use Rattle.dynamic_storage.specs.Meaning.{inside, word_at, settable, after_asking};

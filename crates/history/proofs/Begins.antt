@@ -7,7 +7,7 @@ use Rattle.connection_words.specs.declared.settings.Settings.{Settings}
 use Rattle.connection_words.specs.declared.ring.Ring.{Ring}
 use Rattle.connection_words.specs.Settings.{Limits, segments, samples, channels}
 use Rattle.connection_words.specs.Places.{stride, channel_at, detail_at, submission_of, completion_of}
-use Rattle.connection_words.specs.Soundness.{settings_of, sound}
+use Rattle.connection_words.specs.Soundness.{settings_of}
 use Rattle.connection_words.specs.Queues.{start, count, entry}
 use Rattle.connection_words.proofs.Apart.{details_inside}
 use Rattle.connection_ports.specs.Fresh.{fresh_word, fresh_words}

@@ -1,4 +1,5 @@
 //! What holds of a connection after every history of calls and of steps of pending sends.
+#![tactic(auto)]
 
 mod guarantee;
 

@@ -1,22 +1,20 @@
 -- The lists that the calls and answers say are those of the books.
-use Rattle.std.proofs.Common.{◌≡◌, ℕ, zero, suc, ◌+◌, ◌<◌, ◌≤◌, Bool, true, false, cond, eqb, List, [], ◌∷◌, ◌++◌, length, get_or, take, IfOk, Some, None, Ok, Err, Option, Result, sym, refl, ap, ◌∙◌, arith}
+use Rattle.std.proofs.Common.{◌≡◌, ℕ, zero, suc, ◌+◌, ◌<◌, Bool, true, false, cond, eqb, List, [], ◌∷◌, ◌++◌, length, get_or, take, IfOk, Some, None, Ok, Err, Option, Result, sym, refl, ap, ◌∙◌, arith}
 use Rattle.std.specs.Option.{option_map}
-use Rattle.std.specs.Vec as result
 use Rattle.std.proofs.lemmas.List.{append-nil}
 use Rattle.zero_copy_connection.specs.Answers as calls
-use Rattle.channel_laws.specs.Calls.{State, answered, sends, receives, releases, reclaims, asks_data, asks_count, channel_of}
-use Rattle.channel_laws.specs.Calls as on
+use Rattle.channel_laws.specs.Calls.{State, answered, sends, receives, releases, reclaims, asks_data, asks_count}
 use Rattle.blocking_send.specs.declared.action.BackpressureToReceiverAction.{BackpressureToReceiverAction}
 use Rattle.blocking_send.specs.Waits.{Pending, Outcome, elapsed, goes, ends, step_outcome}
-use Rattle.history.specs.Events.{Event, made, stepped}
-use Rattle.history.specs.Books.{Books, unused, booked_by, booked_on, booked, follow, books, send_of}
+use Rattle.history.specs.Events.{Event, stepped}
+use Rattle.history.specs.Books.{Books, unused, booked_by, booked_on, booked, follow, books}
 use Rattle.history_run.specs.declared.call.Call.{Call}
 use Rattle.history_run.specs.declared.call.Call.TheVariants as call
 use Rattle.history_run.specs.declared.answer.Answer.{Answer}
 use Rattle.history_run.specs.declared.answer.Answer.TheVariants as answer
 use Rattle.history_lists.specs.declared.lists.Lists.{Lists}
 use Rattle.history_run.specs.Course.{answers_of}
-use Rattle.history_run.specs.Made.{Acts, Held, slot_of, steps, event_of, next, plain, sent, answer_of, answer_else, idle, told, listed, events}
+use Rattle.history_run.specs.Made.{Acts, Held, slot_of, steps, event_of, next, plain, sent, answer_of, answer_else, told, listed, events}
 use Rattle.history_lists.specs.Lists.{Tally, value_in, granted, moves, tally_of, tally_in, empty, none, moved_by_send, moves_of, moved, moved_to, tallied}
 
 -- one call more

@@ -1,4 +1,5 @@
 //! The values of a channel after a history, from its calls and answers alone.
+#![tactic(auto)]
 
 mod listing;
 mod lists;

@@ -1,5 +1,5 @@
 -- The events of a list of calls are a history.
-use Rattle.std.proofs.Common.{◌≡◌, ℕ, ◌<◌, List, [], ◌∷◌, ◌++◌, replicate, Some, None, Option, sym, refl, ap, ◌∙◌, subst}
+use Rattle.std.proofs.Common.{◌≡◌, ℕ, ◌<◌, List, [], ◌∷◌, ◌++◌, replicate, Some, None, Option, sym, refl, ap, subst}
 use Rattle.std.specs.Option.{option_map}
 use Rattle.dynamic_storage.specs.declared.condition.Condition.{Condition}
 use Rattle.connection_words.specs.declared.settings.Settings.{Settings}
@@ -7,7 +7,7 @@ use Rattle.connection_words.specs.Settings.{channels}
 use Rattle.connection_ports.specs.declared.port.Port.{Port}
 use Rattle.channel_laws.specs.Calls.{State, state_of}
 use Rattle.blocking_send.specs.Waits.{Pending, elapsed}
-use Rattle.history.specs.Events.{Event, Answered, leaves, Runs}
+use Rattle.history.specs.Events.{Event, Answered, Runs}
 use Rattle.history.specs.Guarantee.{Kept}
 use Rattle.history.proofs.Theorem.{holds}
 use Rattle.history_run.specs.declared.call.Call.{Call}

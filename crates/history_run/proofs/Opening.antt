@@ -1,5 +1,5 @@
 -- Both ports are accepted over an absent storage, and leave a fresh connection.
-use Rattle.std.proofs.Common.{◌≡◌, ℕ, ◌≤◌, false, eqb, ltb, List, [], length, replicate, is_some, Some, None, Option, sym, refl, ap, ◌∙◌, true≢false, arith}
+use Rattle.std.proofs.Common.{◌≡◌, ℕ, false, eqb, ltb, List, [], length, replicate, is_some, Some, None, sym, refl, ap, ◌∙◌, true≢false, arith}
 use Rattle.std.proofs.lemmas.Bool.Decides.{nat_tests}
 use Rattle.std.proofs.lemmas.Bool.{ltb-false}
 use Rattle.dynamic_storage.specs.declared.condition.Condition.{Condition}

@@ -5,11 +5,10 @@ use Rattle.std.proofs.lemmas.List.{map-set, get_or-map, length-map, set_past, ge
 use Rattle.dynamic_storage.specs.declared.condition.Condition.{Condition}
 use Rattle.zero_copy_connection.specs.Answers as calls
 use Rattle.channel_laws.specs.Calls.{state_of}
-use Rattle.blocking_send.specs.declared.action.BackpressureToReceiverAction.{BackpressureToReceiverAction}
 use Rattle.blocking_send.specs.Waits.{Pending, elapsed, goes, ends, step_outcome, step_words}
 use Rattle.history_run.specs.declared.call.Call.TheVariants as call
 use Rattle.history_run.specs.declared.pending_send.PendingSend.{PendingSend}
-use Rattle.history_run.specs.Made.{Acts, Held, held, pending_in, views, slot_of, next}
+use Rattle.history_run.specs.Made.{Acts, held, pending_in, views, slot_of, next}
 
 -- a slot is written, and read
 pub put_is : (waits : List (Option PendingSend)) (i : ℕ) (x y : Option PendingSend) → x ≡ y → views (set waits i x) ≡ set (views waits) i (option_map pending_in y)

@@ -5,14 +5,12 @@ use Rattle.dynamic_storage.specs.declared.condition.Condition.TheVariants.{Absen
 use Rattle.connection_words.specs.declared.settings.Settings.{Settings}
 use Rattle.connection_words.specs.Settings.{channels, raised}
 use Rattle.connection_ports.specs.declared.port.Port.{Port}
-use Rattle.connection_ports.specs.declared.port.Port.TheVariants as port
 use Rattle.connection_ports.specs.declared.port.PortToken.{PortToken}
 use Rattle.connection_ports.specs.Numbers.{creation_number}
 use Rattle.connection_ports.specs.Creation.{creation_refusal}
 use Rattle.connection_ports.specs.Laws.{other}
 use Rattle.channel_laws.specs.Calls.{State, state_of}
 use Rattle.channel_laws.specs.Readings.{settings}
-use Rattle.blocking_send.specs.Waits.{Pending}
 use Rattle.history.specs.Events.{Event, Runs}
 use Rattle.history.specs.Books.{unused, Along}
 use Rattle.history.specs.Guarantee.{Fresh, created, Accepts, NamesLoan, Kept}

@@ -1,4 +1,5 @@
 //! A whole history of calls: both ports are created, the calls are made in order, and their answers are kept.
+#![tactic(auto)]
 
 mod answer;
 mod call;

@@ -7,8 +7,7 @@ ghost use Rattle.connection_ports.specs.Creation.{creation_refusal};
 ghost use Rattle.history_run.specs.Ran.{OpenedTo, Open};
 
 use crate::run::Ports;
-use connection_ports::{create_receiver, create_sender};
-use connection_ports::{ChannelState, Port, ZeroCopyCreationError};
+use connection_ports::{ChannelState, Port, ZeroCopyCreationError, create_receiver, create_sender};
 use connection_words::Settings;
 use dynamic_storage::DynamicStorage;
 

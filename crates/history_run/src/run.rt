@@ -1,6 +1,5 @@
 use crate::{Answer, PendingSend};
-use connection_ports::PortToken;
-use connection_ports::{BorrowCounters, ZeroCopyCreationError};
+use connection_ports::{BorrowCounters, PortToken, ZeroCopyCreationError};
 
 /// What a history leaves to its caller, beside the storage. Both ports have to be closed.
 pub struct Run {

@@ -1,4 +1,5 @@
 //! Runs the script on standard input, or a built-in one where there is none.
+#![tactic(auto)]
 
 use replayer::replay_input;
 

@@ -1,4 +1,5 @@
 //! The same program as `replay`, run on a script that visits what creating and closing ports answers.
+#![tactic(auto)]
 
 use replayer::replay_input;
 

@@ -1,4 +1,5 @@
 //! The same program as `replay`, run on a script that visits what calls on a channel answer.
+#![tactic(auto)]
 
 use replayer::replay_input;
 

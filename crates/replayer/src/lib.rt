@@ -1,4 +1,5 @@
 //! Runs a script of calls over the storage that it describes, and prints an answer for each.
+#![tactic(auto)]
 
 mod backing;
 mod built_in;

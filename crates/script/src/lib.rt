@@ -1,3 +1,5 @@
+#![tactic(auto)]
+
 mod arguments;
 pub mod call;
 mod digits;

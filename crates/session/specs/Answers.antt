@@ -1,5 +1,5 @@
 -- What the calls of a script on the storage alone answer and leave.
-use Rattle.std.specs.Prelude.{ℕ, Bool, true, false, cond, List, length, Some, None, Option, slice_set}
+use Rattle.std.specs.Prelude.{ℕ, Bool, true, false, List, length, Some, None, Option, slice_set}
 use Rattle.dynamic_storage.specs.Meaning.{inside, word_at, settable, after_asking}
 use Rattle.dynamic_storage.specs.declared.condition.Condition.{Condition}
 use Rattle.script.specs.declared.call.Call.{Call}

@@ -1,4 +1,5 @@
 //! The calls of a script, performed one by one over any storage.
+#![tactic(auto)]
 
 mod answer;
 mod holding;

@@ -1,4 +1,5 @@
 //! Where a payload lies.
+#![tactic(auto)]
 
 mod pointer_offset;
 

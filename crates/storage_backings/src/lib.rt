@@ -1,4 +1,5 @@
 //! The memory that a storage can stand in: borrowed words, borrowed bytes, or an array inside.
+#![tactic(auto)]
 
 mod borrowed_bytes;
 mod borrowed_words;

@@ -1,4 +1,5 @@
 //! Layers over any storage, which are storages again.
+#![tactic(auto)]
 
 mod byte_swapped;
 mod window;

@@ -1,4 +1,5 @@
 //! Examples of storages, run: what stands in memory byte for byte, and the edges.
+#![tactic(auto)]
 
 #[cfg(test)]
 mod edges;

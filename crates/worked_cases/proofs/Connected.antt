@@ -1,7 +1,7 @@
 -- A new connection, and calls on it from the words that it has.
 use Rattle.std.proofs.Common.{◌≡◌, ℕ, ◌≤◌, false, List, length, replicate, None, sym, ap, ◌∙◌, subst}
 use Rattle.dynamic_storage.specs.declared.condition.Condition.{Condition}
-use Rattle.dynamic_storage.specs.declared.condition.Condition.TheVariants.{Absent, Ready}
+use Rattle.dynamic_storage.specs.declared.condition.Condition.TheVariants.{Ready}
 use Rattle.connection_words.specs.declared.settings.Settings.{Settings}
 use Rattle.connection_words.specs.Settings.{too_small, too_large}
 use Rattle.connection_words.specs.Places.{needed}

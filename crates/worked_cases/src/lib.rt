@@ -1,4 +1,5 @@
 //! Short lists of calls on new connections, worked to their answers.
+#![tactic(auto)]
 
 ghost use Rattle.worked_cases.specs.Cases.{WorkedCases};
 

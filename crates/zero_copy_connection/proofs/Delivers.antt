@@ -1,19 +1,18 @@
 -- A send that nothing refuses: recording a chunk leaves the queues as they are.
-use Rattle.std.proofs.Common.{◌≡◌, ℕ, ◌+◌, ◌%◌, ◌<◌, ◌≤◌, Bool, true, false, cond, leb, List, get_or, set, Some, None, Option, sym, refl, ap, ◌∙◌, arith}
+use Rattle.std.proofs.Common.{◌≡◌, ℕ, ◌+◌, ◌%◌, ◌<◌, true, false, cond, leb, List, get_or, set, Some, None, sym, ap, ◌∙◌, arith}
 use Rattle.std.proofs.lemmas.Nat.{mod_below}
 use Rattle.std.proofs.lemmas.Bool.{cond-true, cond-false}
 use Rattle.std.proofs.lemmas.List.{get_or-set_other}
 use Rattle.shm_allocator.specs.Offsets.{segment_of}
 use Rattle.connection_words.specs.declared.settings.Settings.{Settings}
-use Rattle.connection_words.specs.declared.ring.Ring.{Ring}
 use Rattle.connection_words.specs.Settings.{Limits, buffer, channels}
-use Rattle.connection_words.specs.Places.{stride, channel_at, detail_at, submission_of, size_at}
-use Rattle.connection_words.specs.Queues.{start, count, slot_of, entry, queue_sound}
+use Rattle.connection_words.specs.Places.{stride, channel_at, submission_of, size_at}
+use Rattle.connection_words.specs.Queues.{start, count, slot_of, queue_sound}
 use Rattle.connection_words.specs.Chunks.{mark_of}
 use Rattle.connection_words.proofs.Apart.{channels_first}
 use Rattle.connection_ports.proofs.Steps.{some_is, some_true, none_false}
 use Rattle.zero_copy_connection.specs.declared.mark.Mark.TheVariants.{Free, Used}
-use Rattle.zero_copy_connection.specs.Answers.{Answer, nothing}
+use Rattle.zero_copy_connection.specs.Answers.{nothing}
 use Rattle.zero_copy_connection.specs.Marks.{mark_changed}
 use Rattle.zero_copy_connection.specs.Sending.{is_full, recorded, queued, sent_words, oldest, evicted, freed_answer, freed_words}
 

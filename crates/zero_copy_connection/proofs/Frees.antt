@@ -1,5 +1,5 @@
 -- What becomes of a value that left a queue.
-use Rattle.std.proofs.Common.{◌≡◌, ℕ, Bool, true, false, cond, ◌&&◌, eqb, ltb, List, is_some, Some, None, Option, sym, refl, ap, ◌∙◌, arith}
+use Rattle.std.proofs.Common.{◌≡◌, ℕ, true, false, cond, eqb, ltb, List, is_some, Some, None, Option, sym, refl, ap, ◌∙◌, arith}
 use Rattle.std.proofs.lemmas.Bool.Decides.{nat_tests}
 use Rattle.std.proofs.lemmas.Bool.{and_parts, cond-true}
 use Rattle.dynamic_storage.specs.declared.condition.Condition.{Condition}
@@ -10,7 +10,7 @@ use Rattle.connection_words.specs.Soundness.{settings_of}
 use Rattle.connection_words.specs.Queues.{count, entry, popped, queue_sound, has_entry}
 use Rattle.connection_ports.proofs.Steps.{some_is, some_true}
 use Rattle.zero_copy_connection.specs.declared.mark.Mark.TheVariants.{Free, Used}
-use Rattle.zero_copy_connection.specs.Answers.{Answer, refused, value}
+use Rattle.zero_copy_connection.specs.Answers.{refused}
 use Rattle.zero_copy_connection.specs.Marks.{mark_changed}
 use Rattle.zero_copy_connection.specs.Checks.{channel_refusal}
 use Rattle.zero_copy_connection.specs.Sending.{freed_answer, freed_words, reclaim_answer, reclaim_words, none_returned}

@@ -1,4 +1,5 @@
 //! Calls on the channels of a connection: sending, receiving, releasing and reclaiming values.
+#![tactic(auto)]
 
 mod asking;
 mod common;

@@ -5,7 +5,7 @@ use Rattle.zero_copy_connection.specs.Sending.{chunk_refusal}
 use Rattle.worked_cases.specs.Cases.{value_at}
 use Rattle.worked_cases.proofs.Goes.{stop, go}
 use Rattle.worked_cases.proofs.Connected.{course}
-use Rattle.worked_cases.proofs.States.{used, small, small_new, small_room, overflowing, overflowing_new, overflowing_room}
+use Rattle.worked_cases.proofs.States.{used, small, small_new, small_room, overflowing, overflowing_room}
 use Rattle.worked_cases.proofs.worked_cases.Goals as goal
 
 pub returns : goal.returns

@@ -2,7 +2,6 @@ use Rattle.std.proofs.Common.{◌≡◌, true, sym, ap, ◌∙◌}
 use Rattle.connection_words.specs.Soundness.{sound}
 use Rattle.connection_ports.specs.Numbers.{bit_of}
 use Rattle.connection_ports.specs.Closing.{state_without, state_left}
-use Rattle.connection_ports.proofs.Steps.{some_true}
 use Rattle.connection_ports.proofs.Closes.{words_left, condition_left}
 use Rattle.connection_ports.proofs.closing.close.Goals as goal
 

@@ -1,4 +1,4 @@
-use Rattle.std.proofs.Common.{◌≡◌, ◌<◌, length, set, sym, ap, ◌∙◌, arith}
+use Rattle.std.proofs.Common.{◌≡◌, ◌<◌, length, set, ap, ◌∙◌, arith}
 use Rattle.connection_ports.specs.Fresh.{fresh_word}
 use Rattle.connection_ports.proofs.Steps.{one_more_word}
 use Rattle.connection_ports.proofs.fresh.write_fresh.Goals as goal

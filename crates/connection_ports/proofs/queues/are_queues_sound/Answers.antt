@@ -1,4 +1,4 @@
-use Rattle.std.proofs.Common.{◌≡◌, ◌<◌, true, sym, ap, ◌∙◌, arith}
+use Rattle.std.proofs.Common.{◌≡◌, ◌<◌, true, sym, ap, arith}
 use Rattle.connection_words.specs.Settings.{channels}
 use Rattle.connection_ports.specs.Creation.{channel_sound}
 use Rattle.connection_ports.proofs.Steps.{some_is, one_more_sound, unsound_channel}

@@ -1,4 +1,3 @@
-use Rattle.std.proofs.Common.{◌≡◌, List, length, sym, refl, ap, ◌∙◌, subst}
 use Rattle.history_lists.proofs.Tallies.{listed_as_books}
 use Rattle.history_lists.proofs.listing.lists_of.Goals as goal
 

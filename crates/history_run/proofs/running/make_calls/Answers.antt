@@ -1,4 +1,4 @@
-use Rattle.std.proofs.Common.{refl, ◌∙◌, arith}
+use Rattle.std.proofs.Common.{◌∙◌, arith}
 use Rattle.history_run.specs.Made.{next, told}
 use Rattle.history_run.proofs.Courses.{course_push, course_all}
 use Rattle.history_run.proofs.running.make_calls.Goals as goal

@@ -1,4 +1,4 @@
-use Rattle.std.proofs.Common.{◌∙◌, rules}
+use Rattle.std.proofs.Common.{◌∙◌}
 use Rattle.std.proofs.lemmas.List.{with_items_is}
 use Rattle.history_run.proofs.Histories.{ran_from}
 use Rattle.history_run.proofs.running.run_history.Goals as goal

@@ -1,4 +1,4 @@
-use Rattle.std.proofs.Common.{◌≡◌, sym, ◌∙◌}
+use Rattle.std.proofs.Common.{sym, ◌∙◌}
 use Rattle.connection_ports.proofs.Steps.{some_is, some_true, none_false}
 use Rattle.zero_copy_connection.proofs.Opens.{no_connection, no_channel, by_queues}
 use Rattle.zero_copy_connection.proofs.common.open_channel.Goals as goal

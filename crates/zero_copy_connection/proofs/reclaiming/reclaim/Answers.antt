@@ -1,4 +1,4 @@
-use Rattle.std.proofs.Common.{◌≡◌, sym, ◌∙◌}
+use Rattle.std.proofs.Common.{◌∙◌}
 use Rattle.zero_copy_connection.proofs.Frees.{refused_by_lem, reclaim_answer_lem, reclaim_words_lem}
 use Rattle.zero_copy_connection.proofs.reclaiming.reclaim.Goals as goal
 

@@ -1,4 +1,4 @@
-use Rattle.std.proofs.Common.{◌≡◌, true, set, sym, ap, ◌∙◌}
+use Rattle.std.proofs.Common.{◌≡◌, true, set, sym, ◌∙◌}
 use Rattle.dynamic_storage.specs.Meaning.{settable}
 use Rattle.dynamic_storage.specs.Codes.{stated_at, code_of}
 use Rattle.storage_layers.proofs.Windows.{coded_answer, coded_words, coded_condition, coded_around}

@@ -1,4 +1,4 @@
-use Rattle.std.proofs.Common.{◌≡◌, set, Some, None, refl, ◌∙◌}
+use Rattle.std.proofs.Common.{◌≡◌, set, Some, refl, ◌∙◌}
 use Rattle.storage_layers.specs.Layers.{framed_at}
 use Rattle.storage_layers.proofs.Windows.{written_words, written_answer, written_condition, written_around, written_nowhere}
 use Rattle.storage_layers.proofs.window.WindowDynamicStorage.write.Goals as goal
