@@ -1,6 +1,6 @@
 -- Held chunks, by how often each is held.
 use Rattle.std.proofs.Common.{◌≡◌, ℕ, zero, suc, ◌+◌, ◌/◌, ◌<◌, List, [], ◌∷◌, ◌++◌, map, length, get_or, refl, ap, ⊎_elim, arith}
-use Rattle.std.specs.List.{ContainsAt as Has, AllByRecursion as All}
+use Rattle.std.specs.List.{ContainsAt, AllByRecursion}
 use Rattle.std.proofs.ByRecursion.{All-append, All-map, All-get_or, All-weaker}
 use Rattle.connection_words.specs.declared.settings.Settings.{Settings}
 use Rattle.shm_allocator.specs.Offsets.{segment_of, offset_of}
@@ -23,13 +23,13 @@ module _ (b : Books) where
       rw (← p, ← q) (hit_yes b.size v)
 
   -- a chunk that is counted is there
-  pub has_chunk : (g i : ℕ) (xs : List ℕ) → 0 < tally b.size g i xs → Has (map (chunk_of b) xs) (g, i)
+  pub has_chunk : (g i : ℕ) (xs : List ℕ) → 0 < tally b.size g i xs → ContainsAt (map (chunk_of b) xs) (g, i)
   has_chunk g i [] h = absurd (omega arith)
   has_chunk g i (x ∷ xs) h =
       ⊎_elim
       (λ (e : (g ≡ segment_of x) × (i ≡ offset_of x / b.size (segment_of x))). (0, omega arith, (λ d. rw (e.0, e.1) refl)))
       (λ (e : hit b.size g i x ≡ 0).
-      let r : Has (map (chunk_of b) xs) (g, i) = has_chunk g i xs (omega arith) in
+      let r : ContainsAt (map (chunk_of b) xs) (g, i) = has_chunk g i xs (omega arith) in
       (suc r.0, omega (arith, r.1), r.2))
       (hit_cases b.size g i x)
 
@@ -47,12 +47,12 @@ module _ (b : Books) where
   counts_twice g i (x ∷ xs) (suc j) (suc k) d l m e f = omega (arith, counts_twice g i xs j k d (omega arith) (omega arith) e f)
 
   module _ (s : Settings) (o : Ledger s b) where
-    all_fit : All (Fits s b.size) (held b)
+    all_fit : AllByRecursion (Fits s b.size) (held b)
     all_fit =
         All-append (Fits s b.size) b.waiting (b.on_loan ++ b.returned) o.waits
         (All-append (Fits s b.size) b.on_loan b.returned o.lent o.back)
 
-    pub all_inside : All (Inside s) (held_chunks b)
+    pub all_inside : AllByRecursion (Inside s) (held_chunks b)
     all_inside = All-map (Inside s) (chunk_of b) (held b) (All-weaker (Fits s b.size) (λ v. Inside s (chunk_of b v)) (λ v f. (f.segment, f.index)) (held b) all_fit)
 
     pub none_twice : NoneTwice (held_chunks b)

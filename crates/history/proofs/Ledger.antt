@@ -1,6 +1,6 @@
 -- The values that the books of a channel hold, and how often each chunk is held.
 use Rattle.std.proofs.Common.{◌≡◌, ℕ, ◌+◌, ◌/◌, ◌%◌, ◌<◌, ◌≤◌, Bool, true, false, cond, ◌&&◌, eqb, ◌≢◌, ◌⊎◌, List, [], ◌∷◌, ◌++◌, length, sym, refl, ap, ◌∙◌, inl, inr, ⊎_elim, arith}
-use Rattle.std.specs.List.{AllByRecursion as All}
+use Rattle.std.specs.List.{AllByRecursion}
 use Rattle.std.proofs.lemmas.Bool.Decides.{nat_tests}
 use Rattle.std.proofs.lemmas.Bool.{cases_eq, cases_Bool, eqb-true, eq-eqb, ne_eqb, true≢false}
 use Rattle.std.proofs.ByRecursion.{All-push, All-weaker}
@@ -39,9 +39,9 @@ pub record Fits (s : Settings) (size : ℕ → ℕ) (v : ℕ) : Type 0 where
 -- as the settings allow and sends were accepted since a reclaim answered nothing
 pub record Ledger (s : Settings) (b : Books) : Type 0 where
   pub few : (g i : ℕ) → g < segments s → i < samples s → total b g i ≤ 1
-  pub waits : All (Fits s b.size) b.waiting
-  pub lent : All (Fits s b.size) b.on_loan
-  pub back : All (Fits s b.size) b.returned
+  pub waits : AllByRecursion (Fits s b.size) b.waiting
+  pub lent : AllByRecursion (Fits s b.size) b.on_loan
+  pub back : AllByRecursion (Fits s b.size) b.returned
   pub loans : length b.on_loan ≤ borrowed s
   pub whole : b.missing ≡ []
   pub order : b.accepted ≡ b.left ++ b.waiting
@@ -97,12 +97,12 @@ module _ (v : ℕ) where
       (λ (e : eqb v x ≡ false). rw e (omega (arith, length_without xs (rw e at h))))
       (cases_Bool (eqb v x))
 
-  pub all_without : (P : ℕ → Type 0) (xs : List ℕ) → has v xs ≡ true → All P xs → P v × All P (without v xs)
+  pub all_without : (P : ℕ → Type 0) (xs : List ℕ) → has v xs ≡ true → AllByRecursion P xs → P v × AllByRecursion P (without v xs)
   all_without P [] h a = absurd (true≢false (sym h))
   all_without P (x ∷ xs) h a =
       ⊎_elim
       (λ (e : eqb v x ≡ true). let f : v ≡ x = eqb-true v x e in rw (e, f) a)
-      (λ (e : eqb v x ≡ false). let r : P v × All P (without v xs) = all_without P xs (rw e at h) a.1 in rw e (r.0, (a.0, r.1)))
+      (λ (e : eqb v x ≡ false). let r : P v × AllByRecursion P (without v xs) = all_without P xs (rw e at h) a.1 in rw e (r.0, (a.0, r.1)))
       (cases_Bool (eqb v x))
 
 -- a size that is recorded stays
@@ -121,7 +121,7 @@ module _ (s : Settings) (size : ℕ → ℕ) (v n : ℕ) where
       let e : sized size v n (segment_of x) ≡ size (segment_of x) = sized_same size v n (segment_of x) f.some in
       record { segment = f.segment; some = rw e f.some; aligned = rw e f.aligned; index = rw e f.index }
 
-  pub tally_sized : (g i : ℕ) (xs : List ℕ) → All (Fits s size) xs → tally (sized size v n) g i xs ≡ tally size g i xs
+  pub tally_sized : (g i : ℕ) (xs : List ℕ) → AllByRecursion (Fits s size) xs → tally (sized size v n) g i xs ≡ tally size g i xs
   tally_sized g i [] a = refl
   tally_sized g i (x ∷ xs) a =
       let e : sized size v n (segment_of x) ≡ size (segment_of x) = sized_same size v n (segment_of x) a.0.some in
@@ -167,7 +167,7 @@ module _ (s : Settings) (b : Books) (v n : ℕ) (o : Ledger s b) where
   pub ledger_joins : New s b v n → Ledger s (joins v n b)
   ledger_joins k =
       let e : sized b.size v n (segment_of v) ≡ n = sized_here b.size v n k.known in
-      let more : (xs : List ℕ) → All (Fits s b.size) xs → All (Fits s (sized b.size v n)) xs = All-weaker (Fits s b.size) (Fits s (sized b.size v n)) (fits_sized s b.size v n) in
+      let more : (xs : List ℕ) → AllByRecursion (Fits s b.size) xs → AllByRecursion (Fits s (sized b.size v n)) xs = All-weaker (Fits s b.size) (Fits s (sized b.size v n)) (fits_sized s b.size v n) in
       record {
         few = λ g i l m.
             ⊎_elim
@@ -195,7 +195,7 @@ module _ (s : Settings) (b : Books) (x : ℕ) (w : List ℕ) (o : Ledger s b) (i
   none_lacks : b.missing ++ missed x b.waiting ≡ []
   none_lacks = rw o.whole (ap (missed x) is ∙ lacks_first x w)
 
-  pub all_waits : Fits s b.size x × All (Fits s b.size) w
+  pub all_waits : Fits s b.size x × AllByRecursion (Fits s b.size) w
   all_waits = rw is at o.waits
 
   pub total_evicts : (g i : ℕ) → total b g i ≡ hit b.size g i x + total (evicts x b) g i
@@ -241,7 +241,7 @@ module _ (s : Settings) (b : Books) (v : ℕ) (o : Ledger s b) (h : has v b.on_l
 
   pub ledger_releases : Ledger s (gives_back v b)
   ledger_releases =
-      let a : Fits s b.size v × All (Fits s b.size) (without v b.on_loan) = all_without v (Fits s b.size) b.on_loan h o.lent in
+      let a : Fits s b.size v × AllByRecursion (Fits s b.size) (without v b.on_loan) = all_without v (Fits s b.size) b.on_loan h o.lent in
       record {
         few = λ g i l m. omega (arith, total_releases g i, o.few g i l m);
         waits = o.waits;
@@ -273,7 +273,7 @@ module _ (s : Settings) (b : Books) (x : ℕ) (r : List ℕ) (o : Ledger s b) (i
   pub back_left : without x b.returned ≡ r
   back_left = ap (without x) is ∙ without_first x r
 
-  pub all_back : Fits s b.size x × All (Fits s b.size) r
+  pub all_back : Fits s b.size x × AllByRecursion (Fits s b.size) r
   all_back = rw is at o.back
 
   pub total_reclaims : (g i : ℕ) → total b g i ≡ hit b.size g i x + total (takes_back x b) g i

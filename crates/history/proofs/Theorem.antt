@@ -1,6 +1,6 @@
 -- The guarantee.
 use Rattle.std.proofs.Common.{◌≡◌, ℕ, ◌<◌, ◌≢◌, List, ◌++◌, get_or, sym, ap, ◌∙◌, subst, arith}
-use Rattle.std.specs.List.{ContainsAt as Has}
+use Rattle.std.specs.List.{ContainsAt}
 use Rattle.std.proofs.ByRecursion.{All-get_or}
 use Rattle.connection_words.specs.declared.settings.Settings.{Settings}
 use Rattle.connection_words.specs.Settings.{segments, samples}
@@ -22,7 +22,7 @@ module _ (s : Settings) (c : ℕ) (b : Books) (z : State) (good : Good s c z b) 
   mark_is : (g i : ℕ) → g < segments s → i < samples s → mark_in z c g i ≡ total b g i
   mark_is g i h k = ap (λ (x : Settings). get_or z.words (mark_at x c g i) 0) good.is ∙ good.view.details.marks g i h k
 
-  inside_if_held : (g i : ℕ) → Has (held_chunks b) (g, i) → Inside s (g, i)
+  inside_if_held : (g i : ℕ) → ContainsAt (held_chunks b) (g, i) → Inside s (g, i)
   inside_if_held g i m =
       subst (Inside s) (m.2 (0, 0)) (All-get_or (Inside s) (held_chunks b) m.0 (0, 0) m.1 (all_inside b s good.ledger))
 

@@ -1,6 +1,6 @@
 -- What holds of a channel after every history on a fresh connection.
 use Rattle.std.specs.Prelude.{◌≡◌, ℕ, ◌/◌, ◌<◌, ◌≤◌, true, false, ◌≢◌, List, [], ◌∷◌, ◌++◌, map, length, replicate, None, slice_index_or}
-use Rattle.std.specs.List.{ContainsAt as Has, AllByRecursion as All}
+use Rattle.std.specs.List.{ContainsAt, AllByRecursion}
 use Rattle.dynamic_storage.specs.declared.condition.Condition.TheVariants.{Absent, Ready}
 use Rattle.shm_allocator.specs.Offsets.{segment_of, offset_of}
 use Rattle.connection_words.specs.declared.settings.Settings.{Settings}
@@ -128,8 +128,8 @@ Uncorrupted b x a = (a ≢ refused 27) × (a ≢ refused 32)
 pub record Stored (s : Settings) (c : ℕ) (b : Books) (z : State) : Type 0 where
   pub same_settings : settings z ≡ s
   -- a chunk is marked as used exactly when it is the chunk of a value that is held
-  pub held_if_used : (g i : ℕ) → g < segments s → i < samples s → mark_in z c g i ≢ 0 → Has (held_chunks b) (g, i)
-  pub used_if_held : (g i : ℕ) → Has (held_chunks b) (g, i) → mark_in z c g i ≢ 0
+  pub held_if_used : (g i : ℕ) → g < segments s → i < samples s → mark_in z c g i ≢ 0 → ContainsAt (held_chunks b) (g, i)
+  pub used_if_held : (g i : ℕ) → ContainsAt (held_chunks b) (g, i) → mark_in z c g i ≢ 0
   pub waits : waiting z c ≡ b.waiting
   pub returns : returned z c ≡ b.returned
   pub borrows : borrowed_in z c ≡ length b.on_loan
@@ -137,7 +137,7 @@ pub record Stored (s : Settings) (c : ℕ) (b : Books) (z : State) : Type 0 wher
 -- what holds of channel c after a history
 pub record Kept (s : Settings) (c : ℕ) (es : List Event) (z : State) : Type 0 where
   pub stored : Stored s c (books c es) z
-  pub inside : All (Inside s) (held_chunks (books c es))
+  pub inside : AllByRecursion (Inside s) (held_chunks (books c es))
   pub apart : NoneTwice (held_chunks (books c es))
   pub whole : (books c es).missing ≡ []
   -- values leave in the order in which they were accepted
