@@ -1,4 +1,4 @@
-ghost use Rattle.std.specs.Prelude.{◌≡◌, ℕ, ◌+◌, ◌≤◌, Bool, true, false, cond, length, replicate, IfOk as made, Some, None};
+ghost use Rattle.std.specs.Prelude.{◌≡◌, ℕ, ◌+◌, ◌≤◌, Bool, true, false, cond, length, replicate, IfOk, Some, None};
 ghost use Rattle.dynamic_storage.specs.declared.condition.Condition.TheVariants.{Absent, Ready};
 ghost use Rattle.connection_words.specs.Settings.{raised, too_small, too_large};
 ghost use Rattle.connection_words.specs.Places.{needed};
@@ -164,7 +164,7 @@ pub fn create_sender<S: DynamicStorage>(
 ) -> Result<PortToken, ZeroCopyCreationError>
     ensures answer { refused_by creation_number result ≡ creation_refusal port.Sender (raised settings) (S.DynamicStorage.condition storage.old) (S.DynamicStorage.words storage.old) }
     ensures fault { fault_of result ≡ creation_fault (raised settings) (S.DynamicStorage.condition storage.old) }
-    ensures token { made result (λ token. (token.port ≡ port.Sender) × (token.spent ≡ false)) }
+    ensures token { IfOk result (λ token. (token.port ≡ port.Sender) × (token.spent ≡ false)) }
     ensures words { S.DynamicStorage.words storage.new ≡ creation_words port.Sender (raised settings) state.0 (S.DynamicStorage.condition storage.old) (S.DynamicStorage.words storage.old) }
     ensures condition { S.DynamicStorage.condition storage.new ≡ creation_condition port.Sender (raised settings) (S.DynamicStorage.condition storage.old) (S.DynamicStorage.words storage.old) }
     ensures outside { S.DynamicStorage.outside storage.new ≡ S.DynamicStorage.outside storage.old }
@@ -184,8 +184,8 @@ pub fn create_receiver<S: DynamicStorage>(
 ) -> Result<(PortToken, BorrowCounters), ZeroCopyCreationError>
     ensures answer { refused_by creation_number result ≡ creation_refusal port.Receiver (raised settings) (S.DynamicStorage.condition storage.old) (S.DynamicStorage.words storage.old) }
     ensures fault { fault_of result ≡ creation_fault (raised settings) (S.DynamicStorage.condition storage.old) }
-    ensures token { made result (λ made. (made.0.port ≡ port.Receiver) × (made.0.spent ≡ false)) }
-    ensures counters { made result (λ made. made.1.counts ≡ replicate 64 0) }
+    ensures token { IfOk result (λ made. (made.0.port ≡ port.Receiver) × (made.0.spent ≡ false)) }
+    ensures counters { IfOk result (λ made. made.1.counts ≡ replicate 64 0) }
     ensures words { S.DynamicStorage.words storage.new ≡ creation_words port.Receiver (raised settings) state.0 (S.DynamicStorage.condition storage.old) (S.DynamicStorage.words storage.old) }
     ensures condition { S.DynamicStorage.condition storage.new ≡ creation_condition port.Receiver (raised settings) (S.DynamicStorage.condition storage.old) (S.DynamicStorage.words storage.old) }
     ensures outside { S.DynamicStorage.outside storage.new ≡ S.DynamicStorage.outside storage.old }

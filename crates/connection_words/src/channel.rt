@@ -1,4 +1,4 @@
-ghost use Rattle.std.specs.Prelude.{◌≡◌, ◌<◌, ◌&&◌, ltb, if◌then◌else◌, Some, None, nat_lt};
+ghost use Rattle.std.specs.Prelude.{◌≡◌, ◌<◌, ◌&&◌, if◌then◌else◌, Some, None, nat_lt};
 ghost use Rattle.connection_words.specs.Settings.{Limits, channels, segments, samples};
 ghost use Rattle.connection_words.specs.Places.{state_at, submission_of, completion_of, size_at, mark_at};
 
@@ -62,7 +62,7 @@ impl Channel {
 
     /// Where the size of a segment's samples stands, if there is such a segment.
     pub fn size_place(&self, segment: u8) -> Option<u64>
-        ensures { result ≡ (if ltb segment (segments self.now.settings) then Some (size_at self.now.settings self.now.index segment) else None) }
+        ensures { result ≡ (if nat_lt segment (segments self.now.settings) then Some (size_at self.now.settings self.now.index segment) else None) }
     {
         let segment = segment as u64;
         if segment >= self.settings.number_of_segments {
@@ -73,7 +73,7 @@ impl Channel {
 
     /// Where the mark of a sample stands, if there is such a sample.
     pub fn mark_place(&self, segment: u8, index: u64) -> Option<u64>
-        ensures { result ≡ (if ltb segment (segments self.now.settings) && nat_lt index (samples self.now.settings) then Some (mark_at self.now.settings self.now.index segment index) else None) }
+        ensures { result ≡ (if nat_lt segment (segments self.now.settings) && nat_lt index (samples self.now.settings) then Some (mark_at self.now.settings self.now.index segment index) else None) }
     {
         let first = self.size_place(segment)?;
         if index >= self.settings.number_of_samples_per_segment {

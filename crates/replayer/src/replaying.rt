@@ -13,7 +13,7 @@ use std::io;
 use std::io::Read;
 use storage_backings::{BorrowedBytes, BorrowedWords, ProcessLocal};
 
-/// Runs the script on standard input, or the built-in one where there is none, and says on standard error why it stopped.
+/// Runs the script on standard input, or the built-in one where there is none, and answers why it stopped.
 pub fn replay_input(rt: &HostRuntime) -> anyhow::Result<()> {
     let mut text = Vec::new(rt.alloc());
     rt.stdin().read_to_end(&mut text)?;
