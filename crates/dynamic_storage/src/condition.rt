@@ -1,3 +1,5 @@
+use std::fmt;
+
 /// What is known of a storage as a whole.
 #[derive(Clone, Copy, Debug, PartialEq, Eq)]
 pub enum Condition {
@@ -22,4 +24,17 @@ pub enum Stage {
     Absent,
     Forming,
     Ready,
+}
+
+/// The word by which a condition is printed.
+impl fmt::Display for Condition {
+    fn fmt<W: fmt::Write>(&self, f: &mut fmt::Formatter<W>) -> fmt::Result {
+        f.write_str(match self {
+            Condition::Absent => "absent",
+            Condition::Forming => "forming",
+            Condition::Ready => "ready",
+            Condition::Broken => "broken",
+            Condition::OtherVersion => "other",
+        })
+    }
 }
