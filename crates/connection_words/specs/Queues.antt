@@ -1,7 +1,9 @@
 -- Queues in the words: entry k, the oldest being 0, is in slot (start + k) mod capacity.
 use Rattle.std.specs.Prelude.{◌≡◌, ℕ, ◌+◌, ◌-◌, ◌%◌, ◌^◌, ◌<◌, ◌≤◌, Bool, ◌&&◌, ◌⊎◌, List, map, nat_le, nat_lt, slice_index, slice_set}
 use Rattle.std.specs.List.{range_with_len}
+use Rattle.connection_words.specs.declared.settings.Settings.{Settings}
 use Rattle.connection_words.specs.declared.ring.Ring.{Ring}
+use Rattle.connection_words.specs.Places.{submission_of, completion_of}
 
 -- the slot of the oldest entry, and how many entries there are
 abbrev pub start : List ℕ → Ring → ℕ
@@ -24,6 +26,10 @@ entries words q = map (λ k. entry words q k) (range_with_len 0 (count words q))
 -- the start is below and the count not above the capacity
 abbrev pub queue_sound : List ℕ → Ring → Bool
 queue_sound words q = nat_lt (start words q) q.capacity && nat_le (count words q) q.capacity
+
+-- both queues of a channel are sound
+abbrev pub channel_sound : List ℕ → Settings → ℕ → Bool
+channel_sound words s c = queue_sound words (submission_of s c) && queue_sound words (completion_of s c)
 
 -- a value joins the queue behind its entries
 abbrev pub pushed : List ℕ → Ring → ℕ → List ℕ

@@ -1,5 +1,5 @@
 ghost use Rattle.std.specs.Prelude.{◌≡◌};
-ghost use Rattle.connection_words.specs.Settings.{at_least_one, raised, too_large, too_small};
+ghost use Rattle.connection_words.specs.Settings.{raised, too_large, too_small};
 
 use crate::Settings;
 
@@ -13,23 +13,17 @@ const MAX_SEGMENTS: u64 = 255;
 
 const MAX_CHANNELS: u64 = 64;
 
-fn at_least_one(number: u64) -> u64
-    ensures { result ≡ at_least_one number }
-{
-    if number == 0 { 1 } else { number }
-}
-
 impl Settings {
     /// These settings, with 1 in place of each 0.
     pub fn raised(self) -> Settings
         ensures { result ≡ raised self }
     {
         Settings {
-            buffer_size: at_least_one(self.buffer_size),
-            max_borrowed_samples_per_channel: at_least_one(self.max_borrowed_samples_per_channel),
-            number_of_samples_per_segment: at_least_one(self.number_of_samples_per_segment),
-            number_of_segments: at_least_one(self.number_of_segments),
-            number_of_channels: at_least_one(self.number_of_channels),
+            buffer_size: self.buffer_size.max(1),
+            max_borrowed_samples_per_channel: self.max_borrowed_samples_per_channel.max(1),
+            number_of_samples_per_segment: self.number_of_samples_per_segment.max(1),
+            number_of_segments: self.number_of_segments.max(1),
+            number_of_channels: self.number_of_channels.max(1),
             enable_safe_overflow: self.enable_safe_overflow,
         }
     }

@@ -1,4 +1,5 @@
 ghost use Rattle.std.specs.Prelude.{◌≡◌, if◌then◌else◌, Some, None};
+ghost use Rattle.dynamic_storage.specs.Changes.{WordsBecome};
 ghost use Rattle.connection_words.specs.Queues.{Placed, count, entry, queue_sound, has_room, has_entry, pushed, popped};
 
 use crate::{Ring, put, word};
@@ -37,9 +38,7 @@ impl Queue {
     /// Puts a value behind the entries, and answers whether there was room.
     pub fn push<S: DynamicStorage>(&self, storage: &mut S, value: u64) -> bool
         ensures answer { result ≡ has_room (S.DynamicStorage.words storage.old) self.now.ring }
-        ensures words { S.DynamicStorage.words storage.new ≡ (if has_room (S.DynamicStorage.words storage.old) self.now.ring then pushed (S.DynamicStorage.words storage.old) self.now.ring value else S.DynamicStorage.words storage.old) }
-        ensures condition { S.DynamicStorage.condition storage.new ≡ S.DynamicStorage.condition storage.old }
-        ensures outside { S.DynamicStorage.outside storage.new ≡ S.DynamicStorage.outside storage.old }
+        ensures storage { WordsBecome S.DynamicStorage storage.old storage.new (if has_room (S.DynamicStorage.words storage.old) self.now.ring then pushed (S.DynamicStorage.words storage.old) self.now.ring value else S.DynamicStorage.words storage.old) }
     {
         let start = word(storage, self.ring.heads);
         let count = self.len(storage);
@@ -58,9 +57,7 @@ impl Queue {
     /// Takes the oldest entry away, if there is one.
     pub fn pop<S: DynamicStorage>(&self, storage: &mut S) -> Option<u64>
         ensures answer { result ≡ (if has_entry (S.DynamicStorage.words storage.old) self.now.ring then Some (entry (S.DynamicStorage.words storage.old) self.now.ring 0) else None) }
-        ensures words { S.DynamicStorage.words storage.new ≡ (if has_entry (S.DynamicStorage.words storage.old) self.now.ring then popped (S.DynamicStorage.words storage.old) self.now.ring else S.DynamicStorage.words storage.old) }
-        ensures condition { S.DynamicStorage.condition storage.new ≡ S.DynamicStorage.condition storage.old }
-        ensures outside { S.DynamicStorage.outside storage.new ≡ S.DynamicStorage.outside storage.old }
+        ensures storage { WordsBecome S.DynamicStorage storage.old storage.new (if has_entry (S.DynamicStorage.words storage.old) self.now.ring then popped (S.DynamicStorage.words storage.old) self.now.ring else S.DynamicStorage.words storage.old) }
     {
         let count = self.len(storage);
         if count == 0 || !self.is_sound(storage) {

@@ -1,25 +1,9 @@
 ghost use Rattle.std.specs.Prelude.{◌≡◌, if◌then◌else◌, Some, None};
 ghost use Rattle.std.specs.Option.{option_map};
-ghost use Rattle.connection_words.specs.Soundness.{is_ready, port_state, settings_of, sound};
+ghost use Rattle.connection_words.specs.Soundness.{settings_of, sound};
 
-use crate::places::completions;
-use crate::{Layout, Settings, word};
+use crate::{Layout, PortState, Settings, word};
 use dynamic_storage::{Condition, DynamicStorage};
-
-fn is_ready(condition: Condition) -> bool
-    ensures { result ≡ is_ready condition }
-{
-    match condition {
-        Condition::Ready => true,
-        _ => false,
-    }
-}
-
-fn is_port_state(state: u64) -> bool
-    ensures { result ≡ port_state state }
-{
-    state <= 3 || state == 128
-}
 
 /// The settings that the words state.
 fn settings_of<S: DynamicStorage>(storage: &S) -> Settings
@@ -39,11 +23,14 @@ fn settings_of<S: DynamicStorage>(storage: &S) -> Settings
 pub fn layout_of<S: DynamicStorage>(storage: &S) -> Option<Layout>
     ensures { option_map (λ layout. layout.settings) result ≡ (if sound (S.DynamicStorage.condition storage.now) (S.DynamicStorage.words storage.now) then Some (settings_of (S.DynamicStorage.words storage.now)) else None) }
 {
-    if !is_ready(storage.condition()) || !is_port_state(word(storage, 0)) {
+    let Condition::Ready = storage.condition() else {
         return None;
-    }
+    };
+    let Ok(_) = PortState::try_from(word(storage, 0)) else {
+        return None;
+    };
     let layout = Layout::new(settings_of(storage))?;
-    if word(storage, 6) > 1 || word(storage, 7) != completions(layout.settings) {
+    if word(storage, 6) > 1 || word(storage, 7) != layout.completions() {
         return None;
     }
     if layout.words_needed() > storage.len() {

@@ -7,7 +7,7 @@ use shm_allocator::PointerOffset;
 
 /// Where the mark of the chunk stands that a value names by the recorded size of its segment, if it names one.
 pub fn chunk_mark<S: DynamicStorage>(channel: &Channel, storage: &S, value: u64) -> Option<u64>
-    ensures { result ≡ chunk_mark (S.DynamicStorage.words storage.now) channel.now.settings channel.now.index value }
+    ensures { result ≡ chunk_mark (S.DynamicStorage.words storage.now) channel.now.layout.settings channel.now.index value }
 {
     let (segment, offset) = PointerOffset::from_value(value).parts();
     let size = word(storage, channel.size_place(segment)?);

@@ -12,11 +12,11 @@ found s c g p o e f = (grind (arith, nat_tests), grind (arith, nat_tests))
 
 small : (c : Else-index-self) → c.in_ok-first.first + 1 + c.args.index ≤ 1069760840
 small c =
-    let s = c.args.self.now.settings in
+    let s = c.args.self.now.layout.settings in
     let k = c.args.self.now.index in
     let g = c.args.segment in
     let at_size = found s k g c.in_ok-first.first c.size_place.result c.in_ok-first.was c.size_place.ensures in
-    omega (arith, details_inside s k g c.args.self.now.inside at_size.0, needed_small s c.args.self.now.limits)
+    omega (arith, details_inside s k g c.args.self.now.inside at_size.0, needed_small s c.args.self.now.layout.limits)
 
 pub overflow_add-result : goal.overflow_add-result
 overflow_add-result c = omega (arith, small c)

@@ -1,5 +1,5 @@
 use Rattle.connection_words.specs.Places.{channel_at, detail_at}
-use Rattle.connection_words.proofs.places.detail_place.Goals as goal
+use Rattle.connection_words.proofs.layout.Layout.detail_place.Goals as goal
 
 pub returns : goal.returns
 unfolding channel_at detail_at

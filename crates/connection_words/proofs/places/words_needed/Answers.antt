@@ -1,6 +1,0 @@
-use Rattle.std.proofs.Common.{◌∙◌}
-use Rattle.connection_words.proofs.Apart.{details_end}
-use Rattle.connection_words.proofs.places.words_needed.Goals as goal
-
-pub returns : goal.returns
-returns c = c.detail_place.ensures ∙ details_end c.args.settings
