@@ -10,10 +10,9 @@ use Rattle.connection_words.specs.declared.ring.Ring.{Ring}
 use Rattle.connection_words.specs.Settings.{segments, samples, channels}
 use Rattle.connection_words.specs.Places.{submission_of, size_at}
 use Rattle.connection_words.specs.Soundness.{settings_of}
-use Rattle.connection_words.specs.Queues.{start, count, slot_of, entry, queue_sound, pushed, popped}
+use Rattle.connection_words.specs.Queues.{start, count, slot_of, entry, queue_sound, pushed, popped, channel_sound}
 use Rattle.connection_words.specs.Chunks.{names, size_for, mark_of, chunk_mark}
 use Rattle.connection_words.specs.Laws.{Side, submission, completion, queue_of, SameAt}
-use Rattle.connection_ports.specs.Creation.{channel_sound}
 use Rattle.zero_copy_connection.specs.declared.mark.Mark.{Mark}
 use Rattle.zero_copy_connection.specs.declared.mark.Mark.TheVariants.{Used}
 use Rattle.zero_copy_connection.specs.Answers.{Answer, unless, answer_unless}

@@ -6,9 +6,8 @@ use Rattle.connection_words.specs.declared.settings.Settings.{Settings}
 use Rattle.connection_words.specs.Settings.{borrowed, samples, segments, channels, completions}
 use Rattle.connection_words.specs.Places.{submission_of, completion_of}
 use Rattle.connection_words.specs.Soundness.{settings_of, sound}
-use Rattle.connection_words.specs.Queues.{count, entry}
+use Rattle.connection_words.specs.Queues.{count, entry, channel_sound}
 use Rattle.connection_words.specs.Chunks.{size_for, mark_of}
-use Rattle.connection_ports.specs.Creation.{channel_sound}
 use Rattle.zero_copy_connection.specs.declared.mark.Mark.TheVariants.{Used}
 use Rattle.zero_copy_connection.specs.Answers.{Answer, refused, nothing, value, flag, number, or_else, unless, answer_unless}
 use Rattle.zero_copy_connection.specs.Marks.{is_mark}

@@ -8,10 +8,9 @@ use Rattle.connection_words.specs.declared.settings.Settings.{Settings}
 use Rattle.connection_words.specs.Settings.{Limits, buffer, borrowed, samples, segments, channels, completions, too_small, too_large}
 use Rattle.connection_words.specs.Places.{needed, submission_of, completion_of}
 use Rattle.connection_words.specs.Soundness.{is_ready, settings_of, port_state, sound}
-use Rattle.connection_words.specs.Queues.{queue_sound}
+use Rattle.connection_words.specs.Queues.{queue_sound, channel_sound}
 use Rattle.connection_words.specs.Chunks.{size_for, mark_of}
 use Rattle.connection_words.specs.Laws.{SameAt}
-use Rattle.connection_ports.specs.Creation.{channel_sound}
 use Rattle.zero_copy_connection.specs.declared.mark.Mark.TheVariants.{Used}
 use Rattle.zero_copy_connection.specs.Answers.{or_else}
 use Rattle.zero_copy_connection.specs.Marks.{is_mark}

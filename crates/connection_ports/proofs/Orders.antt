@@ -11,12 +11,12 @@ use Rattle.connection_words.specs.declared.ring.Ring.{Ring}
 use Rattle.connection_words.specs.Settings.{buffer, borrowed, samples, segments, channels, too_small, too_large, completions}
 use Rattle.connection_words.specs.Places.{channel_at, needed, submission_of, completion_of}
 use Rattle.connection_words.specs.Soundness.{sound, settings_of, port_state}
-use Rattle.connection_words.specs.Queues.{start, count, queue_sound}
+use Rattle.connection_words.specs.Queues.{start, count, queue_sound, channel_sound}
 use Rattle.connection_ports.specs.declared.port.Port.{Port}
 use Rattle.connection_ports.specs.declared.port.Port.TheVariants as port
 use Rattle.connection_ports.specs.Numbers.{bit_of}
 use Rattle.connection_ports.specs.Fresh.{fresh_word, fresh_words, overflow_word}
-use Rattle.connection_ports.specs.Creation.{channel_sound, queues_sound, whole, holds, same, mismatch, join_refusal, creation_refusal, creation_words}
+use Rattle.connection_ports.specs.Creation.{queues_sound, whole, holds, same, mismatch, join_refusal, creation_refusal, creation_words}
 use Rattle.connection_ports.specs.Laws.{other, OrdersAgree}
 use Rattle.connection_ports.proofs.Freshly.{fresh_at, fresh_length, fresh_zero, fresh_header, fresh_settings}
 

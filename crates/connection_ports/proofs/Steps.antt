@@ -5,7 +5,8 @@ use Rattle.std.proofs.lemmas.List.{set-append_right, drop_more, append_assoc}
 use Rattle.std.proofs.lemmas.List.FromFn.{length-map-range_with_len, map-range_with_len_more}
 use Rattle.std.proofs.lemmas.Bool.{cases_eq}
 use Rattle.connection_words.specs.declared.settings.Settings.{Settings}
-use Rattle.connection_ports.specs.Creation.{channel_sound, queues_sound}
+use Rattle.connection_words.specs.Queues.{channel_sound}
+use Rattle.connection_ports.specs.Creation.{queues_sound}
 
 -- what an answer says that is there under a test
 pub some_is : {A : Type 0} (b : Bool) (x y : A) → Some x ≡ cond b (Some y) None → x ≡ y

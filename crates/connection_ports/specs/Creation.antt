@@ -4,9 +4,9 @@ use Rattle.dynamic_storage.specs.declared.condition.Condition.{Condition}
 use Rattle.dynamic_storage.specs.declared.condition.Condition.TheVariants.{Absent, Forming, Ready, Broken, OtherVersion}
 use Rattle.connection_words.specs.declared.settings.Settings.{Settings}
 use Rattle.connection_words.specs.Settings.{buffer, borrowed, samples, segments, channels, too_large}
-use Rattle.connection_words.specs.Places.{needed, submission_of, completion_of}
+use Rattle.connection_words.specs.Places.{needed}
 use Rattle.connection_words.specs.Soundness.{sound, settings_of}
-use Rattle.connection_words.specs.Queues.{queue_sound}
+use Rattle.connection_words.specs.Queues.{channel_sound}
 use Rattle.connection_ports.specs.declared.error.DynamicStorageOpenError.{DynamicStorageOpenError}
 use Rattle.connection_ports.specs.declared.error.DynamicStorageOpenError.TheVariants as fault
 use Rattle.connection_ports.specs.declared.port.Entry.{Entry}
@@ -15,10 +15,6 @@ use Rattle.connection_ports.specs.declared.port.Port.{Port}
 use Rattle.connection_ports.specs.declared.port.Port.TheVariants as port
 use Rattle.connection_ports.specs.Numbers.{bit_of}
 use Rattle.connection_ports.specs.Fresh.{fresh_words}
-
--- both queues of a channel are sound
-abbrev pub channel_sound : List ℕ → Settings → ℕ → Bool
-channel_sound words s c = queue_sound words (submission_of s c) && queue_sound words (completion_of s c)
 
 -- the queues of the first n channels are sound
 abbrev pub queues_sound : List ℕ → Settings → ℕ → Bool
@@ -56,9 +52,13 @@ join_refusal p s condition words =
     (cond (holds p (slice_index words 0)) (Some 7)
     (cond (slice_index words 0 == 128) (Some 8) (mismatch s (settings_of words))))
 
+-- why an absent storage is not set up
+abbrev pub room_refusal : Settings → List ℕ → Option ℕ
+room_refusal s words = cond (nat_lt (length words) (needed s)) (Some 2) None
+
 -- why a port is not created, by the condition of the storage
 abbrev pub refusal_at : Condition → Port → Settings → List ℕ → Option ℕ
-refusal_at Absent p s words = cond (nat_lt (length words) (needed s)) (Some 2) None
+refusal_at Absent p s words = room_refusal s words
 refusal_at Forming p s words = Some 3
 refusal_at Ready p s words = join_refusal p s Ready words
 refusal_at Broken p s words = Some 5

@@ -4,7 +4,7 @@ ghost use Rattle.connection_ports.specs.Numbers.{refused_by, state_number};
 use crate::ChannelStateNewError;
 
 /// The state of a channel: closed, or a number up to 2^62 that its ports give a meaning to, 0 for open.
-#[derive(Clone, Copy)]
+#[derive(Clone, Copy, Debug, PartialEq, Eq)]
 pub struct ChannelState(u64);
 
 impl ChannelState {

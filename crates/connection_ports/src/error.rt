@@ -1,5 +1,5 @@
 /// Why a storage cannot be opened.
-#[derive(Clone, Copy)]
+#[derive(Clone, Copy, Debug, PartialEq, Eq)]
 pub enum DynamicStorageOpenError {
     DoesNotExist,
     InitializationNotYetFinalized,
@@ -8,7 +8,7 @@ pub enum DynamicStorageOpenError {
 }
 
 /// Why a port is not created.
-#[derive(Clone, Copy)]
+#[derive(Clone, Copy, Debug, PartialEq, Eq)]
 pub enum ZeroCopyCreationError {
     SettingTooLarge,
     RoomTooSmall,
@@ -27,13 +27,13 @@ pub enum ZeroCopyCreationError {
 }
 
 /// Why closing a port changes nothing.
-#[derive(Clone, Copy)]
+#[derive(Clone, Copy, Debug, PartialEq, Eq)]
 pub enum PortCloseError {
     Unsound,
 }
 
 /// Why a number is no state of a channel.
-#[derive(Clone, Copy)]
+#[derive(Clone, Copy, Debug, PartialEq, Eq)]
 pub enum ChannelStateNewError {
     ValueOutOfBounds,
 }

@@ -2,6 +2,7 @@
 #![tactic(auto)]
 
 mod borrow_counters;
+mod builder;
 mod channel_state;
 mod closing;
 mod creation;
@@ -10,12 +11,13 @@ mod fresh;
 mod laws;
 mod numbers;
 mod port;
+mod port_states;
 mod queues;
 
 pub use borrow_counters::BorrowCounters;
+pub use builder::Builder;
 pub use channel_state::ChannelState;
 pub use closing::close;
-pub use creation::{create_receiver, create_sender};
 pub use error::{
     ChannelStateNewError, DynamicStorageOpenError, PortCloseError, ZeroCopyCreationError,
 };

@@ -1,9 +1,7 @@
 ghost use Rattle.std.specs.Prelude.{◌≡◌};
-ghost use Rattle.connection_ports.specs.Numbers.{creation_number, as_creation, close_number, state_number, bit_of};
+ghost use Rattle.connection_ports.specs.Numbers.{creation_number, as_creation, close_number, state_number};
 
-use crate::{
-    ChannelStateNewError, DynamicStorageOpenError, Port, PortCloseError, ZeroCopyCreationError,
-};
+use crate::{ChannelStateNewError, DynamicStorageOpenError, PortCloseError, ZeroCopyCreationError};
 
 impl ZeroCopyCreationError {
     pub fn number(self) -> u64
@@ -62,18 +60,6 @@ impl ChannelStateNewError {
     {
         match self {
             ChannelStateNewError::ValueOutOfBounds => 52,
-        }
-    }
-}
-
-impl Port {
-    /// The bit of the port in the port state.
-    pub fn bit(self) -> u64
-        ensures { result ≡ bit_of self }
-    {
-        match self {
-            Port::Sender => 1,
-            Port::Receiver => 2,
         }
     }
 }

@@ -1,14 +1,14 @@
 ghost use Rattle.std.specs.Prelude.{◌≡◌, true};
 
 /// One of the two ports of a connection.
-#[derive(Clone, Copy)]
+#[derive(Clone, Copy, Debug, PartialEq, Eq)]
 pub enum Port {
     Sender,
     Receiver,
 }
 
 /// How a storage is entered.
-#[derive(Clone, Copy)]
+#[derive(Clone, Copy, Debug, PartialEq, Eq)]
 pub(crate) enum Entry {
     /// Nobody has used it yet.
     SetUp,
@@ -18,6 +18,8 @@ pub(crate) enum Entry {
 
 /// What a creation hands out: the right and the duty to close a port. It holds no storage, and it can be let go only once
 /// it was closed.
+// A type that is no Drop could not be let go either, but only the requires of a drop says what is owed.
+#[derive(Debug, PartialEq, Eq)]
 pub struct PortToken {
     pub(crate) port: Port,
     pub(crate) spent: bool,

@@ -2,17 +2,10 @@ ghost use Rattle.std.specs.Prelude.{◌≡◌, if◌then◌else◌, Some, None};
 ghost use Rattle.std.specs.Option.{option_map};
 ghost use Rattle.connection_words.specs.Settings.{channels};
 ghost use Rattle.connection_words.specs.Soundness.{settings_of};
-ghost use Rattle.connection_ports.specs.Creation.{channel_sound, queues_sound, whole};
+ghost use Rattle.connection_ports.specs.Creation.{queues_sound, whole};
 
-use connection_words::{Channel, Layout, layout_of};
+use connection_words::{Layout, layout_of};
 use dynamic_storage::DynamicStorage;
-
-/// Whether both queues of a channel are sound.
-fn is_channel_sound<S: DynamicStorage>(storage: &S, channel: &Channel) -> bool
-    ensures { result ≡ channel_sound (S.DynamicStorage.words storage.now) channel.now.settings channel.now.index }
-{
-    channel.submission().is_sound(storage) && channel.completion().is_sound(storage)
-}
 
 /// Whether all queues of a connection are sound.
 fn are_queues_sound<S: DynamicStorage>(storage: &S, layout: &Layout) -> bool
@@ -22,7 +15,7 @@ fn are_queues_sound<S: DynamicStorage>(storage: &S, layout: &Layout) -> bool
         let Some(channel) = layout.channel(index) else {
             return false;
         };
-        if !is_channel_sound(storage, &channel) {
+        if !channel.is_sound(storage) {
             return false;
         }
     }

@@ -1,6 +1,6 @@
 ghost use Rattle.std.specs.Prelude.{◌≡◌, true, IfOk};
 ghost use Rattle.connection_words.specs.Soundness.{settings_of};
-ghost use Rattle.connection_ports.specs.Creation.{channel_sound};
+ghost use Rattle.connection_words.specs.Queues.{channel_sound};
 ghost use Rattle.connection_ports.specs.Numbers.{refused_by};
 ghost use Rattle.zero_copy_connection.specs.Numbers.{channel_number};
 ghost use Rattle.zero_copy_connection.specs.Checks.{channel_refusal};
