@@ -1,10 +1,10 @@
-use Rattle.connection_words.specs.Queues.{channel_sound}
 -- What holds of every way that a step can go.
 use Rattle.std.proofs.Common.{◌≡◌, ℕ, ◌+◌, Bool, true, false, cond, not, eqb, leb, List, Some, None, Option, refl, arith}
 use Rattle.std.proofs.lemmas.Bool.Decides.{nat_tests}
 use Rattle.dynamic_storage.specs.declared.condition.Condition.{Condition}
 use Rattle.connection_words.specs.Settings.{channels}
 use Rattle.connection_words.specs.Soundness.{sound, settings_of}
+use Rattle.connection_words.specs.Queues.{channel_sound}
 use Rattle.zero_copy_connection.specs.Checks.{channel_refusal}
 use Rattle.zero_copy_connection.specs.Sending.{is_full}
 use Rattle.blocking_send.specs.declared.action.BackpressureToReceiverAction.{BackpressureToReceiverAction}

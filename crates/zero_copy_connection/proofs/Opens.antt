@@ -1,4 +1,3 @@
-use Rattle.connection_words.specs.Queues.{channel_sound}
 -- What the checks of a channel tell.
 use Rattle.std.proofs.Common.{◌≡◌, ℕ, Bool, true, false, cond, not, ltb, leb, List, Some, None, Option, sym, refl, ap, ◌∙◌, arith}
 use Rattle.std.proofs.lemmas.Bool.Decides.{nat_tests}
@@ -6,6 +5,7 @@ use Rattle.dynamic_storage.specs.declared.condition.Condition.{Condition}
 use Rattle.connection_words.specs.declared.settings.Settings.{Settings}
 use Rattle.connection_words.specs.Settings.{channels}
 use Rattle.connection_words.specs.Soundness.{sound, settings_of}
+use Rattle.connection_words.specs.Queues.{channel_sound}
 use Rattle.zero_copy_connection.specs.Checks.{channel_refusal}
 
 flips : (a b : ℕ) (t : Bool) → ltb a b ≡ t → leb b a ≡ not t

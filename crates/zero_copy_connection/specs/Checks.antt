@@ -1,9 +1,9 @@
-use Rattle.connection_words.specs.Queues.{channel_sound}
 -- What every call on a channel checks first.
 use Rattle.std.specs.Prelude.{ℕ, cond, not, List, Some, None, Option, nat_le}
 use Rattle.dynamic_storage.specs.declared.condition.Condition.{Condition}
 use Rattle.connection_words.specs.Settings.{channels}
 use Rattle.connection_words.specs.Soundness.{sound, settings_of}
+use Rattle.connection_words.specs.Queues.{channel_sound}
 
 -- 50 if anything but a queue is unsound, 51 for a channel that is not there, 50 for an unsound queue of the channel
 unfoldable pub channel_refusal : Condition → List ℕ → ℕ → Option ℕ

@@ -16,8 +16,7 @@ channel_number channel.Unsound = 50
 channel_number channel.BadChannel = 51
 
 abbrev pub send_number : ZeroCopySendError → ℕ
-send_number send.Unsound = 50
-send_number send.BadChannel = 51
+send_number (send.Channel refusal) = channel_number refusal
 send_number send.ReceiveBufferFull = 20
 send_number send.BadSegment = 21
 send_number send.ZeroSize = 22
@@ -28,17 +27,14 @@ send_number send.AlreadyUsed = 26
 send_number send.ConnectionCorrupted = 27
 
 abbrev pub receive_number : ZeroCopyReceiveError → ℕ
-receive_number receive.Unsound = 50
-receive_number receive.BadChannel = 51
+receive_number (receive.Channel refusal) = channel_number refusal
 receive_number receive.ReceiveWouldExceedMaxBorrowValue = 40
 
 abbrev pub release_number : ZeroCopyReleaseError → ℕ
-release_number release.Unsound = 50
-release_number release.BadChannel = 51
+release_number (release.Channel refusal) = channel_number refusal
 release_number release.RetrieveBufferFull = 41
 release_number release.NothingBorrowed = 42
 
 abbrev pub reclaim_number : ZeroCopyReclaimError → ℕ
-reclaim_number reclaim.Unsound = 50
-reclaim_number reclaim.BadChannel = 51
+reclaim_number (reclaim.Channel refusal) = channel_number refusal
 reclaim_number reclaim.ReceiverReturnedCorruptedPointerOffset = 32

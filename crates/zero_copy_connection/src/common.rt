@@ -9,19 +9,12 @@ use crate::ChannelError;
 use connection_words::{Channel, layout_of};
 use dynamic_storage::DynamicStorage;
 
-/// Whether both queues of a channel are sound.
-fn are_queues_sound<S: DynamicStorage>(storage: &S, channel: &Channel) -> bool
-    ensures { result ≡ channel_sound (S.DynamicStorage.words storage.now) channel.now.settings channel.now.index }
-{
-    channel.submission().is_sound(storage) && channel.completion().is_sound(storage)
-}
-
 /// The channel that a call names, if the words are a connection with such a channel and sound queues.
 pub fn open_channel<S: DynamicStorage>(storage: &S, channel: u64) -> Result<Channel, ChannelError>
     ensures answer { refused_by channel_number result ≡ channel_refusal (S.DynamicStorage.condition storage.now) (S.DynamicStorage.words storage.now) channel }
-    ensures settings { IfOk result (λ opened. opened.settings ≡ settings_of (S.DynamicStorage.words storage.now)) }
+    ensures settings { IfOk result (λ opened. opened.layout.settings ≡ settings_of (S.DynamicStorage.words storage.now)) }
     ensures index { IfOk result (λ opened. opened.index ≡ channel) }
-    ensures sound { IfOk result (λ opened. channel_sound (S.DynamicStorage.words storage.now) opened.settings opened.index ≡ true) }
+    ensures sound { IfOk result (λ opened. channel_sound (S.DynamicStorage.words storage.now) opened.layout.settings opened.index ≡ true) }
 {
     let Some(layout) = layout_of(storage) else {
         return Err(ChannelError::Unsound);
@@ -29,7 +22,7 @@ pub fn open_channel<S: DynamicStorage>(storage: &S, channel: u64) -> Result<Chan
     let Some(opened) = layout.channel(channel) else {
         return Err(ChannelError::BadChannel);
     };
-    if !are_queues_sound(storage, &opened) {
+    if !opened.is_sound(storage) {
         return Err(ChannelError::Unsound);
     }
     Ok(opened)

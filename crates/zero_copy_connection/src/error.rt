@@ -1,5 +1,5 @@
 /// Why a call on a channel is not served.
-#[derive(Clone, Copy)]
+#[derive(Clone, Copy, Debug, PartialEq, Eq)]
 pub enum ChannelError {
     /// The words are no connection, or a queue of the channel is not sound.
     Unsound,
@@ -8,10 +8,9 @@ pub enum ChannelError {
 }
 
 /// Why a value was not sent; or, for `ConnectionCorrupted`, that the value it evicted was no used chunk.
-#[derive(Clone, Copy)]
+#[derive(Clone, Copy, Debug, PartialEq, Eq)]
 pub enum ZeroCopySendError {
-    Unsound,
-    BadChannel,
+    Channel(ChannelError),
     ReceiveBufferFull,
     BadSegment,
     ZeroSize,
@@ -23,26 +22,23 @@ pub enum ZeroCopySendError {
 }
 
 /// Why nothing was received.
-#[derive(Clone, Copy)]
+#[derive(Clone, Copy, Debug, PartialEq, Eq)]
 pub enum ZeroCopyReceiveError {
-    Unsound,
-    BadChannel,
+    Channel(ChannelError),
     ReceiveWouldExceedMaxBorrowValue,
 }
 
 /// Why a value was not released.
-#[derive(Clone, Copy)]
+#[derive(Clone, Copy, Debug, PartialEq, Eq)]
 pub enum ZeroCopyReleaseError {
-    Unsound,
-    BadChannel,
+    Channel(ChannelError),
     RetrieveBufferFull,
     NothingBorrowed,
 }
 
 /// Why no value was reclaimed.
-#[derive(Clone, Copy)]
+#[derive(Clone, Copy, Debug, PartialEq, Eq)]
 pub enum ZeroCopyReclaimError {
-    Unsound,
-    BadChannel,
+    Channel(ChannelError),
     ReceiverReturnedCorruptedPointerOffset,
 }

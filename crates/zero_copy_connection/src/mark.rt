@@ -1,5 +1,5 @@
 /// What the mark of a chunk says.
-#[derive(Clone, Copy)]
+#[derive(Clone, Copy, Debug, PartialEq, Eq)]
 pub enum Mark {
     Free,
     Used,

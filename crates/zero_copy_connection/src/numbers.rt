@@ -22,8 +22,7 @@ impl ZeroCopySendError {
         ensures { result ≡ send_number self }
     {
         match self {
-            ZeroCopySendError::Unsound => 50,
-            ZeroCopySendError::BadChannel => 51,
+            ZeroCopySendError::Channel(refusal) => refusal.number(),
             ZeroCopySendError::ReceiveBufferFull => 20,
             ZeroCopySendError::BadSegment => 21,
             ZeroCopySendError::ZeroSize => 22,
@@ -41,8 +40,7 @@ impl ZeroCopyReceiveError {
         ensures { result ≡ receive_number self }
     {
         match self {
-            ZeroCopyReceiveError::Unsound => 50,
-            ZeroCopyReceiveError::BadChannel => 51,
+            ZeroCopyReceiveError::Channel(refusal) => refusal.number(),
             ZeroCopyReceiveError::ReceiveWouldExceedMaxBorrowValue => 40,
         }
     }
@@ -53,8 +51,7 @@ impl ZeroCopyReleaseError {
         ensures { result ≡ release_number self }
     {
         match self {
-            ZeroCopyReleaseError::Unsound => 50,
-            ZeroCopyReleaseError::BadChannel => 51,
+            ZeroCopyReleaseError::Channel(refusal) => refusal.number(),
             ZeroCopyReleaseError::RetrieveBufferFull => 41,
             ZeroCopyReleaseError::NothingBorrowed => 42,
         }
@@ -66,8 +63,7 @@ impl ZeroCopyReclaimError {
         ensures { result ≡ reclaim_number self }
     {
         match self {
-            ZeroCopyReclaimError::Unsound => 50,
-            ZeroCopyReclaimError::BadChannel => 51,
+            ZeroCopyReclaimError::Channel(refusal) => refusal.number(),
             ZeroCopyReclaimError::ReceiverReturnedCorruptedPointerOffset => 32,
         }
     }
@@ -77,10 +73,7 @@ impl From<ChannelError> for ZeroCopySendError {
     ghost from_gives = { λ refusal error. send_number error ≡ channel_number refusal };
 
     fn from(refusal: ChannelError) -> ZeroCopySendError {
-        match refusal {
-            ChannelError::Unsound => ZeroCopySendError::Unsound,
-            ChannelError::BadChannel => ZeroCopySendError::BadChannel,
-        }
+        ZeroCopySendError::Channel(refusal)
     }
 }
 
@@ -88,10 +81,7 @@ impl From<ChannelError> for ZeroCopyReceiveError {
     ghost from_gives = { λ refusal error. receive_number error ≡ channel_number refusal };
 
     fn from(refusal: ChannelError) -> ZeroCopyReceiveError {
-        match refusal {
-            ChannelError::Unsound => ZeroCopyReceiveError::Unsound,
-            ChannelError::BadChannel => ZeroCopyReceiveError::BadChannel,
-        }
+        ZeroCopyReceiveError::Channel(refusal)
     }
 }
 
@@ -99,10 +89,7 @@ impl From<ChannelError> for ZeroCopyReleaseError {
     ghost from_gives = { λ refusal error. release_number error ≡ channel_number refusal };
 
     fn from(refusal: ChannelError) -> ZeroCopyReleaseError {
-        match refusal {
-            ChannelError::Unsound => ZeroCopyReleaseError::Unsound,
-            ChannelError::BadChannel => ZeroCopyReleaseError::BadChannel,
-        }
+        ZeroCopyReleaseError::Channel(refusal)
     }
 }
 
@@ -110,9 +97,6 @@ impl From<ChannelError> for ZeroCopyReclaimError {
     ghost from_gives = { λ refusal error. reclaim_number error ≡ channel_number refusal };
 
     fn from(refusal: ChannelError) -> ZeroCopyReclaimError {
-        match refusal {
-            ChannelError::Unsound => ZeroCopyReclaimError::Unsound,
-            ChannelError::BadChannel => ZeroCopyReclaimError::BadChannel,
-        }
+        ZeroCopyReclaimError::Channel(refusal)
     }
 }

@@ -1,4 +1,5 @@
 ghost use Rattle.std.specs.Prelude.{◌≡◌};
+ghost use Rattle.dynamic_storage.specs.Changes.{WordsBecome};
 ghost use Rattle.zero_copy_connection.specs.Numbers.{receive_number, release_number};
 ghost use Rattle.zero_copy_connection.specs.Answers.{answer_of, optional, done};
 ghost use Rattle.zero_copy_connection.specs.Receiving.{receive_answer, receive_words, receive_counts, release_answer, release_words, release_counts};
@@ -16,10 +17,8 @@ pub fn receive<S: DynamicStorage>(
     channel: u64,
 ) -> Result<Option<u64>, ZeroCopyReceiveError>
     ensures answer { answer_of optional receive_number result ≡ receive_answer (S.DynamicStorage.condition storage.old) (S.DynamicStorage.words storage.old) counters.old.counts channel }
-    ensures words { S.DynamicStorage.words storage.new ≡ receive_words (S.DynamicStorage.condition storage.old) (S.DynamicStorage.words storage.old) counters.old.counts channel }
+    ensures storage { WordsBecome S.DynamicStorage storage.old storage.new (receive_words (S.DynamicStorage.condition storage.old) (S.DynamicStorage.words storage.old) counters.old.counts channel) }
     ensures counts { counters.new.counts ≡ receive_counts (S.DynamicStorage.condition storage.old) (S.DynamicStorage.words storage.old) counters.old.counts channel }
-    ensures condition { S.DynamicStorage.condition storage.new ≡ S.DynamicStorage.condition storage.old }
-    ensures outside { S.DynamicStorage.outside storage.new ≡ S.DynamicStorage.outside storage.old }
 {
     let opened = open_channel(storage, channel)?;
     let borrowed = counters.counts[channel as usize];
@@ -41,10 +40,8 @@ pub fn release<S: DynamicStorage>(
     channel: u64,
 ) -> Result<(), ZeroCopyReleaseError>
     ensures answer { answer_of done release_number result ≡ release_answer (S.DynamicStorage.condition storage.old) (S.DynamicStorage.words storage.old) counters.old.counts channel }
-    ensures words { S.DynamicStorage.words storage.new ≡ release_words (S.DynamicStorage.condition storage.old) (S.DynamicStorage.words storage.old) counters.old.counts value.0 channel }
+    ensures storage { WordsBecome S.DynamicStorage storage.old storage.new (release_words (S.DynamicStorage.condition storage.old) (S.DynamicStorage.words storage.old) counters.old.counts value.0 channel) }
     ensures counts { counters.new.counts ≡ release_counts (S.DynamicStorage.condition storage.old) (S.DynamicStorage.words storage.old) counters.old.counts channel }
-    ensures condition { S.DynamicStorage.condition storage.new ≡ S.DynamicStorage.condition storage.old }
-    ensures outside { S.DynamicStorage.outside storage.new ≡ S.DynamicStorage.outside storage.old }
 {
     let opened = open_channel(storage, channel)?;
     let returned = opened.completion();

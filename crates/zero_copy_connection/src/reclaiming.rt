@@ -1,4 +1,5 @@
 ghost use Rattle.std.specs.Prelude.{◌≡◌};
+ghost use Rattle.dynamic_storage.specs.Changes.{WordsBecome};
 ghost use Rattle.zero_copy_connection.specs.Numbers.{reclaim_number};
 ghost use Rattle.zero_copy_connection.specs.Answers.{answer_of, optional};
 ghost use Rattle.zero_copy_connection.specs.Sending.{reclaim_answer, reclaim_words};
@@ -15,9 +16,7 @@ pub fn reclaim<S: DynamicStorage>(
     channel: u64,
 ) -> Result<Option<u64>, ZeroCopyReclaimError>
     ensures answer { answer_of optional reclaim_number result ≡ reclaim_answer (S.DynamicStorage.condition storage.old) (S.DynamicStorage.words storage.old) channel }
-    ensures words { S.DynamicStorage.words storage.new ≡ reclaim_words (S.DynamicStorage.condition storage.old) (S.DynamicStorage.words storage.old) channel }
-    ensures condition { S.DynamicStorage.condition storage.new ≡ S.DynamicStorage.condition storage.old }
-    ensures outside { S.DynamicStorage.outside storage.new ≡ S.DynamicStorage.outside storage.old }
+    ensures storage { WordsBecome S.DynamicStorage storage.old storage.new (reclaim_words (S.DynamicStorage.condition storage.old) (S.DynamicStorage.words storage.old) channel) }
 {
     let opened = open_channel(storage, channel)?;
     let popped = opened.completion().pop(storage);

@@ -1,4 +1,5 @@
 ghost use Rattle.std.specs.Prelude.{◌≡◌, true, IfOk, if◌then◌else◌, Some, None, slice_set};
+ghost use Rattle.dynamic_storage.specs.Changes.{WordsBecome};
 ghost use Rattle.shm_allocator.specs.Offsets.{segment_of};
 ghost use Rattle.connection_words.specs.Places.{submission_of, size_at};
 ghost use Rattle.connection_words.specs.Queues.{queue_sound};
@@ -27,7 +28,7 @@ struct ChunkPlaces {
 
 /// Whether as many values wait as the buffer takes.
 pub fn is_full<S: DynamicStorage>(storage: &S, channel: &Channel) -> bool
-    ensures { result ≡ is_full (S.DynamicStorage.words storage.now) channel.now.settings channel.now.index }
+    ensures { result ≡ is_full (S.DynamicStorage.words storage.now) channel.now.layout.settings channel.now.index }
 {
     let waiting = channel.submission();
     waiting.len(storage) >= waiting.capacity()
@@ -35,7 +36,7 @@ pub fn is_full<S: DynamicStorage>(storage: &S, channel: &Channel) -> bool
 
 /// Refuses where the buffer is full and does not overflow.
 fn check_room<S: DynamicStorage>(storage: &S, channel: &Channel) -> Result<(), ZeroCopySendError>
-    ensures { refused_by send_number result ≡ full_refusal (S.DynamicStorage.words storage.now) channel.now.settings channel.now.index }
+    ensures { refused_by send_number result ≡ full_refusal (S.DynamicStorage.words storage.now) channel.now.layout.settings channel.now.index }
 {
     if is_full(storage, channel) && !channel.settings().enable_safe_overflow {
         return Err(ZeroCopySendError::ReceiveBufferFull);
@@ -50,9 +51,9 @@ fn check_chunk<S: DynamicStorage>(
     value: PointerOffset,
     sample_size: u64,
 ) -> Result<ChunkPlaces, ZeroCopySendError>
-    ensures answer { refused_by send_number result ≡ chunk_refusal (S.DynamicStorage.words storage.now) channel.now.settings channel.now.index value.0 sample_size }
-    ensures size { IfOk result (λ places. places.size ≡ size_at channel.now.settings channel.now.index (segment_of value.0)) }
-    ensures mark { IfOk result (λ places. places.mark ≡ mark_of channel.now.settings channel.now.index sample_size value.0) }
+    ensures answer { refused_by send_number result ≡ chunk_refusal (S.DynamicStorage.words storage.now) channel.now.layout.settings channel.now.index value.0 sample_size }
+    ensures size { IfOk result (λ places. places.size ≡ size_at channel.now.layout.settings channel.now.index (segment_of value.0)) }
+    ensures mark { IfOk result (λ places. places.mark ≡ mark_of channel.now.layout.settings channel.now.index sample_size value.0) }
 {
     let (segment, offset) = value.parts();
     let Some(size) = channel.size_place(segment) else {
@@ -79,9 +80,7 @@ fn check_chunk<S: DynamicStorage>(
 
 /// Records the sample size of a chunk and marks it as used.
 fn record_chunk<S: DynamicStorage>(storage: &mut S, places: ChunkPlaces, sample_size: u64)
-    ensures words { S.DynamicStorage.words storage.new ≡ slice_set (slice_set (S.DynamicStorage.words storage.old) places.size sample_size) places.mark 1 }
-    ensures condition { S.DynamicStorage.condition storage.new ≡ S.DynamicStorage.condition storage.old }
-    ensures outside { S.DynamicStorage.outside storage.new ≡ S.DynamicStorage.outside storage.old }
+    ensures { WordsBecome S.DynamicStorage storage.old storage.new (slice_set (slice_set (S.DynamicStorage.words storage.old) places.size sample_size) places.mark 1) }
 {
     put(storage, places.size, sample_size);
     put(storage, places.mark, Mark::Used.word());
@@ -89,11 +88,9 @@ fn record_chunk<S: DynamicStorage>(storage: &mut S, places: ChunkPlaces, sample_
 
 /// Puts a value behind those that wait, and answers the oldest if it had to leave.
 fn enqueue<S: DynamicStorage>(storage: &mut S, channel: &Channel, value: u64) -> Option<u64>
-    requires { queue_sound (S.DynamicStorage.words storage.old) (submission_of channel.now.settings channel.now.index) ≡ true }
-    ensures answer { result ≡ (if is_full (S.DynamicStorage.words storage.old) channel.now.settings channel.now.index then Some (oldest (S.DynamicStorage.words storage.old) channel.now.settings channel.now.index) else None) }
-    ensures words { S.DynamicStorage.words storage.new ≡ queued (S.DynamicStorage.words storage.old) channel.now.settings channel.now.index value (is_full (S.DynamicStorage.words storage.old) channel.now.settings channel.now.index) }
-    ensures condition { S.DynamicStorage.condition storage.new ≡ S.DynamicStorage.condition storage.old }
-    ensures outside { S.DynamicStorage.outside storage.new ≡ S.DynamicStorage.outside storage.old }
+    requires { queue_sound (S.DynamicStorage.words storage.old) (submission_of channel.now.layout.settings channel.now.index) ≡ true }
+    ensures answer { result ≡ (if is_full (S.DynamicStorage.words storage.old) channel.now.layout.settings channel.now.index then Some (oldest (S.DynamicStorage.words storage.old) channel.now.layout.settings channel.now.index) else None) }
+    ensures storage { WordsBecome S.DynamicStorage storage.old storage.new (queued (S.DynamicStorage.words storage.old) channel.now.layout.settings channel.now.index value (is_full (S.DynamicStorage.words storage.old) channel.now.layout.settings channel.now.index)) }
 {
     let waiting = channel.submission();
     if !is_full(storage, channel) {
@@ -111,10 +108,8 @@ fn free_evicted<S: DynamicStorage>(
     channel: &Channel,
     value: u64,
 ) -> Result<Option<u64>, ZeroCopySendError>
-    ensures answer { answer_of optional send_number result ≡ freed_answer (mark_changed (S.DynamicStorage.words storage.old) channel.now.settings channel.now.index value Used Free) value 27 }
-    ensures words { S.DynamicStorage.words storage.new ≡ freed_words (mark_changed (S.DynamicStorage.words storage.old) channel.now.settings channel.now.index value Used Free) (S.DynamicStorage.words storage.old) }
-    ensures condition { S.DynamicStorage.condition storage.new ≡ S.DynamicStorage.condition storage.old }
-    ensures outside { S.DynamicStorage.outside storage.new ≡ S.DynamicStorage.outside storage.old }
+    ensures answer { answer_of optional send_number result ≡ freed_answer (mark_changed (S.DynamicStorage.words storage.old) channel.now.layout.settings channel.now.index value Used Free) value 27 }
+    ensures storage { WordsBecome S.DynamicStorage storage.old storage.new (freed_words (mark_changed (S.DynamicStorage.words storage.old) channel.now.layout.settings channel.now.index value Used Free) (S.DynamicStorage.words storage.old)) }
 {
     if !change_mark(storage, channel, value, Mark::Used, Mark::Free) {
         return Err(ZeroCopySendError::ConnectionCorrupted);
@@ -130,13 +125,11 @@ fn deliver<S: DynamicStorage>(
     value: u64,
     sample_size: u64,
 ) -> Result<Option<u64>, ZeroCopySendError>
-    requires sound { queue_sound (S.DynamicStorage.words storage.old) (submission_of channel.now.settings channel.now.index) ≡ true }
-    requires size { places.size ≡ size_at channel.now.settings channel.now.index (segment_of value) }
-    requires mark { places.mark ≡ mark_of channel.now.settings channel.now.index sample_size value }
-    ensures answer { answer_of optional send_number result ≡ (if is_full (S.DynamicStorage.words storage.old) channel.now.settings channel.now.index then freed_answer (evicted (S.DynamicStorage.words storage.old) channel.now.settings channel.now.index value sample_size) (oldest (S.DynamicStorage.words storage.old) channel.now.settings channel.now.index) 27 else nothing) }
-    ensures words { S.DynamicStorage.words storage.new ≡ (if is_full (S.DynamicStorage.words storage.old) channel.now.settings channel.now.index then freed_words (evicted (S.DynamicStorage.words storage.old) channel.now.settings channel.now.index value sample_size) (sent_words (S.DynamicStorage.words storage.old) channel.now.settings channel.now.index value sample_size) else sent_words (S.DynamicStorage.words storage.old) channel.now.settings channel.now.index value sample_size) }
-    ensures condition { S.DynamicStorage.condition storage.new ≡ S.DynamicStorage.condition storage.old }
-    ensures outside { S.DynamicStorage.outside storage.new ≡ S.DynamicStorage.outside storage.old }
+    requires sound { queue_sound (S.DynamicStorage.words storage.old) (submission_of channel.now.layout.settings channel.now.index) ≡ true }
+    requires size { places.size ≡ size_at channel.now.layout.settings channel.now.index (segment_of value) }
+    requires mark { places.mark ≡ mark_of channel.now.layout.settings channel.now.index sample_size value }
+    ensures answer { answer_of optional send_number result ≡ (if is_full (S.DynamicStorage.words storage.old) channel.now.layout.settings channel.now.index then freed_answer (evicted (S.DynamicStorage.words storage.old) channel.now.layout.settings channel.now.index value sample_size) (oldest (S.DynamicStorage.words storage.old) channel.now.layout.settings channel.now.index) 27 else nothing) }
+    ensures storage { WordsBecome S.DynamicStorage storage.old storage.new (if is_full (S.DynamicStorage.words storage.old) channel.now.layout.settings channel.now.index then freed_words (evicted (S.DynamicStorage.words storage.old) channel.now.layout.settings channel.now.index value sample_size) (sent_words (S.DynamicStorage.words storage.old) channel.now.layout.settings channel.now.index value sample_size) else sent_words (S.DynamicStorage.words storage.old) channel.now.layout.settings channel.now.index value sample_size) }
 {
     record_chunk(storage, places, sample_size);
     let Some(oldest) = enqueue(storage, channel, value) else {
@@ -153,9 +146,7 @@ pub fn try_send<S: DynamicStorage>(
     channel: u64,
 ) -> Result<Option<u64>, ZeroCopySendError>
     ensures answer { answer_of optional send_number result ≡ send_answer (S.DynamicStorage.condition storage.old) (S.DynamicStorage.words storage.old) channel value.0 sample_size }
-    ensures words { S.DynamicStorage.words storage.new ≡ send_words (S.DynamicStorage.condition storage.old) (S.DynamicStorage.words storage.old) channel value.0 sample_size }
-    ensures condition { S.DynamicStorage.condition storage.new ≡ S.DynamicStorage.condition storage.old }
-    ensures outside { S.DynamicStorage.outside storage.new ≡ S.DynamicStorage.outside storage.old }
+    ensures storage { WordsBecome S.DynamicStorage storage.old storage.new (send_words (S.DynamicStorage.condition storage.old) (S.DynamicStorage.words storage.old) channel value.0 sample_size) }
 {
     let opened = open_channel(storage, channel)?;
     check_room(storage, &opened)?;

@@ -1,4 +1,5 @@
 ghost use Rattle.std.specs.Prelude.{◌≡◌, is_some};
+ghost use Rattle.dynamic_storage.specs.Changes.{WordsBecome};
 ghost use Rattle.zero_copy_connection.specs.Marks.{mark_word, is_mark, mark_changed};
 ghost use Rattle.zero_copy_connection.specs.Sending.{freed_words};
 
@@ -36,10 +37,8 @@ pub(crate) fn change_mark<S: DynamicStorage>(
     from: Mark,
     to: Mark,
 ) -> bool
-    ensures answer { result ≡ is_some (mark_changed (S.DynamicStorage.words storage.old) channel.now.settings channel.now.index value from to) }
-    ensures words { S.DynamicStorage.words storage.new ≡ freed_words (mark_changed (S.DynamicStorage.words storage.old) channel.now.settings channel.now.index value from to) (S.DynamicStorage.words storage.old) }
-    ensures condition { S.DynamicStorage.condition storage.new ≡ S.DynamicStorage.condition storage.old }
-    ensures outside { S.DynamicStorage.outside storage.new ≡ S.DynamicStorage.outside storage.old }
+    ensures answer { result ≡ is_some (mark_changed (S.DynamicStorage.words storage.old) channel.now.layout.settings channel.now.index value from to) }
+    ensures storage { WordsBecome S.DynamicStorage storage.old storage.new (freed_words (mark_changed (S.DynamicStorage.words storage.old) channel.now.layout.settings channel.now.index value from to) (S.DynamicStorage.words storage.old)) }
 {
     let Some(place) = chunk_mark(channel, storage, value) else {
         return false;

@@ -23,13 +23,13 @@ returns-in_default-channel g c =
       sound = tt;
     }
 
-pub returns-then-not-are_queues_sound : goal.returns-then-not-are_queues_sound
-returns-then-not-are_queues_sound g c =
+pub returns-then-not-is_sound : goal.returns-then-not-is_sound
+returns-then-not-is_sound g c =
     let k = g.S.DynamicStorage.condition c.args.storage.now in
     let words = g.S.DynamicStorage.words c.args.storage.now in
     let settings = c.in-Some-channel.ensures.settings in
     record {
-      answer = by_queues k words c.args.channel c.in-Some.layout.settings (some_true _ _ _ c.in-Some.ensures) (some_is _ _ _ c.in-Some.ensures) c.in-Some-channel.opened.settings c.in-Some-channel.opened.index _ (some_true _ _ _ settings) (some_is _ _ _ settings) (some_is _ _ _ c.in-Some-channel.ensures.index) c.if-not-are_queues_sound.ensures;
+      answer = by_queues k words c.args.channel c.in-Some.layout.settings (some_true _ _ _ c.in-Some.ensures) (some_is _ _ _ c.in-Some.ensures) c.in-Some-channel.opened.layout.settings c.in-Some-channel.opened.index _ (some_true _ _ _ settings) (some_is _ _ _ settings) (some_is _ _ _ c.in-Some-channel.ensures.index) c.if-not-is_sound.ensures;
       settings = tt;
       index = tt;
       sound = tt;
@@ -43,8 +43,8 @@ returns g c =
     let index = some_is _ _ _ c.in-Some-channel.ensures.index in
     let stated = some_is _ _ _ c.in-Some.ensures in
     record {
-      answer = by_queues k words c.args.channel c.in-Some.layout.settings (some_true _ _ _ c.in-Some.ensures) stated c.in-Some-channel.opened.settings c.in-Some-channel.opened.index _ (some_true _ _ _ settings) (some_is _ _ _ settings) index c.if-not-are_queues_sound.ensures;
+      answer = by_queues k words c.args.channel c.in-Some.layout.settings (some_true _ _ _ c.in-Some.ensures) stated c.in-Some-channel.opened.layout.settings c.in-Some-channel.opened.index _ (some_true _ _ _ settings) (some_is _ _ _ settings) index c.if-not-is_sound.ensures;
       settings = some_is _ _ _ settings ∙ stated;
       index = index;
-      sound = sym c.if-not-are_queues_sound.ensures;
+      sound = sym c.if-not-is_sound.ensures;
     }

@@ -1,4 +1,5 @@
 use Rattle.std.proofs.Common.{◌∙◌}
+use Rattle.dynamic_storage.proofs.Changing.{in_turn}
 use Rattle.zero_copy_connection.proofs.Frees.{refused_by_lem, reclaim_answer_lem, reclaim_words_lem}
 use Rattle.zero_copy_connection.proofs.reclaiming.reclaim.Goals as goal
 
@@ -12,8 +13,6 @@ returns-in_default-change_mark g c =
     let popped = c.in-Some.ensures in
     let marked = c.in_default-change_mark.ensures in
     record {
-      answer = refused_by_lem _ c.in-Some.value 32 marked.answer ∙ reclaim_answer_lem k words now c.args.channel opened.settings opened.index c.in-Some.value c.completion.result.ring known.answer known.settings known.index c.completion.ensures popped.answer popped.words;
-      words = marked.words ∙ reclaim_words_lem k words now c.args.channel opened.settings opened.index c.in-Some.value c.completion.result.ring known.answer known.settings known.index c.completion.ensures popped.answer popped.words;
-      condition = marked.condition ∙ popped.condition;
-      outside = marked.outside ∙ popped.outside;
+      answer = refused_by_lem _ c.in-Some.value 32 marked.answer ∙ reclaim_answer_lem k words now c.args.channel opened.layout.settings opened.index c.in-Some.value c.completion.result.ring known.answer known.settings known.index c.completion.ensures popped.answer popped.storage.words;
+      storage = in_turn popped.storage marked.storage (marked.storage.words ∙ reclaim_words_lem k words now c.args.channel opened.layout.settings opened.index c.in-Some.value c.completion.result.ring known.answer known.settings known.index c.completion.ensures popped.answer popped.storage.words);
     }
