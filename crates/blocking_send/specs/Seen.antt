@@ -1,10 +1,8 @@
 -- What is seen of a send that waits, and of its step.
-use Rattle.std.specs.Prelude.{Ok, Err, Result}
+use Rattle.std.specs.Prelude.{Some, None, Ok, Err, Option, Result}
 use Rattle.zero_copy_connection.specs.Answers.{answer_of, optional}
 use Rattle.blocking_send.specs.declared.error.ZeroCopyBlockingSendError.{ZeroCopyBlockingSendError}
 use Rattle.blocking_send.specs.declared.waiting.Waiting.{Waiting}
-use Rattle.blocking_send.specs.declared.waiting.Next.{Next}
-use Rattle.blocking_send.specs.declared.waiting.Next.TheVariants as next
 use Rattle.blocking_send.specs.declared.waiting.Step.{Step}
 use Rattle.blocking_send.specs.declared.waiting.Step.TheVariants as step
 use Rattle.blocking_send.specs.Numbers.{blocking_number}
@@ -23,12 +21,10 @@ view_of w =
       until_delivered = w.until_delivered;
     }
 
-abbrev pub way_of_next : Next → Way
-way_of_next next.TrySend = sends
-way_of_next (next.Wait w) = waits (view_of w)
-
-abbrev pub way_of : Result Next ZeroCopyBlockingSendError → Way
-way_of (Ok n) = way_of_next n
+-- the way of a step that is refused, after which the send stays pending, or that sends
+abbrev pub way_of : Result (Option Waiting) ZeroCopyBlockingSendError → Way
+way_of (Ok (Some w)) = waits (view_of w)
+way_of (Ok None) = sends
 way_of (Err e) = refuses (blocking_number e)
 
 abbrev pub outcome_of : Step → Outcome

@@ -1,5 +1,5 @@
 /// What is done with a value for which there is no room.
-#[derive(Clone, Copy)]
+#[derive(Clone, Copy, Debug, PartialEq, Eq)]
 pub enum BackpressureToReceiverAction {
     /// The action that the strategy names.
     FollowBackpressureyStrategy,

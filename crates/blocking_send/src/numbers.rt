@@ -10,16 +10,7 @@ impl ZeroCopyBlockingSendError {
         ensures { result ≡ blocking_number self }
     {
         match self {
-            ZeroCopyBlockingSendError::Unsound => 50,
-            ZeroCopyBlockingSendError::BadChannel => 51,
-            ZeroCopyBlockingSendError::ReceiveBufferFull => 20,
-            ZeroCopyBlockingSendError::BadSegment => 21,
-            ZeroCopyBlockingSendError::ZeroSize => 22,
-            ZeroCopyBlockingSendError::SizeChanged => 23,
-            ZeroCopyBlockingSendError::Misaligned => 24,
-            ZeroCopyBlockingSendError::IndexTooLarge => 25,
-            ZeroCopyBlockingSendError::AlreadyUsed => 26,
-            ZeroCopyBlockingSendError::ConnectionCorrupted => 27,
+            ZeroCopyBlockingSendError::Send(refusal) => refusal.number(),
             ZeroCopyBlockingSendError::NoConnectedReceiverAndBufferIsFull => 28,
             ZeroCopyBlockingSendError::ChannelIsClosed => 29,
             ZeroCopyBlockingSendError::UnableToDeliver => 30,
@@ -28,34 +19,18 @@ impl ZeroCopyBlockingSendError {
     }
 }
 
-impl From<ChannelError> for ZeroCopyBlockingSendError {
-    ghost from_gives = { λ refusal error. blocking_number error ≡ channel_number refusal };
-
-    fn from(refusal: ChannelError) -> ZeroCopyBlockingSendError {
-        match refusal {
-            ChannelError::Unsound => ZeroCopyBlockingSendError::Unsound,
-            ChannelError::BadChannel => ZeroCopyBlockingSendError::BadChannel,
-        }
-    }
-}
-
 impl From<ZeroCopySendError> for ZeroCopyBlockingSendError {
     ghost from_gives = { λ refusal error. blocking_number error ≡ send_number refusal };
 
     fn from(refusal: ZeroCopySendError) -> ZeroCopyBlockingSendError {
-        match refusal {
-            ZeroCopySendError::Unsound => ZeroCopyBlockingSendError::Unsound,
-            ZeroCopySendError::BadChannel => ZeroCopyBlockingSendError::BadChannel,
-            ZeroCopySendError::ReceiveBufferFull => ZeroCopyBlockingSendError::ReceiveBufferFull,
-            ZeroCopySendError::BadSegment => ZeroCopyBlockingSendError::BadSegment,
-            ZeroCopySendError::ZeroSize => ZeroCopyBlockingSendError::ZeroSize,
-            ZeroCopySendError::SizeChanged => ZeroCopyBlockingSendError::SizeChanged,
-            ZeroCopySendError::Misaligned => ZeroCopyBlockingSendError::Misaligned,
-            ZeroCopySendError::IndexTooLarge => ZeroCopyBlockingSendError::IndexTooLarge,
-            ZeroCopySendError::AlreadyUsed => ZeroCopyBlockingSendError::AlreadyUsed,
-            ZeroCopySendError::ConnectionCorrupted => {
-                ZeroCopyBlockingSendError::ConnectionCorrupted
-            }
-        }
+        Self::Send(refusal)
+    }
+}
+
+impl From<ChannelError> for ZeroCopyBlockingSendError {
+    ghost from_gives = { λ refusal error. blocking_number error ≡ channel_number refusal };
+
+    fn from(refusal: ChannelError) -> ZeroCopyBlockingSendError {
+        ZeroCopyBlockingSendError::from(ZeroCopySendError::from(refusal))
     }
 }

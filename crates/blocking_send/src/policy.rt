@@ -13,7 +13,7 @@ pub trait BackpressurePolicy {
 }
 
 /// Always the same action.
-#[derive(Clone, Copy)]
+#[derive(Clone, Copy, Debug, PartialEq, Eq)]
 pub struct FixedAction(pub BackpressureToReceiverAction);
 
 impl BackpressurePolicy for FixedAction {
@@ -25,7 +25,7 @@ impl BackpressurePolicy for FixedAction {
 }
 
 /// Retries so many times, and then fails.
-#[derive(Clone, Copy)]
+#[derive(Clone, Copy, Debug, PartialEq, Eq)]
 pub struct RetryThenFail {
     pub max_retries: u64,
 }

@@ -5,7 +5,7 @@ use shm_allocator::PointerOffset;
 
 /// A send that waits for room. It is moved into each step and comes back only while it is pending, so one that has ended
 /// cannot be stepped again; one that is let go is not sent.
-#[derive(Drop)]
+#[derive(Debug, PartialEq, Eq, Drop)]
 pub struct Waiting {
     pub(crate) value: PointerOffset,
     pub(crate) sample_size: u64,
@@ -20,15 +20,8 @@ pub struct Waiting {
 }
 
 /// What a step of a pending send comes to.
-#[derive(Drop)]
+#[derive(Debug, PartialEq, Eq, Drop)]
 pub enum Step {
     Pending(Waiting),
     Ended(Result<Option<u64>, ZeroCopyBlockingSendError>),
-}
-
-/// How a step that nothing refuses goes on.
-#[derive(Drop)]
-pub(crate) enum Next {
-    TrySend,
-    Wait(Waiting),
 }
