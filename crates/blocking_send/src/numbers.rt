@@ -3,12 +3,13 @@ ghost use Rattle.zero_copy_connection.specs.Numbers.{channel_number, send_number
 ghost use Rattle.blocking_send.specs.Numbers.{blocking_number};
 
 use crate::ZeroCopyBlockingSendError;
+use connection_ports::Numbered;
 use zero_copy_connection::{ChannelError, ZeroCopySendError};
 
-impl ZeroCopyBlockingSendError {
-    pub fn number(self) -> u64
-        ensures { result ≡ blocking_number self }
-    {
+impl Numbered for ZeroCopyBlockingSendError {
+    ghost number = { blocking_number };
+
+    fn number(self) -> u64 {
         match self {
             ZeroCopyBlockingSendError::Send(refusal) => refusal.number(),
             ZeroCopyBlockingSendError::NoConnectedReceiverAndBufferIsFull => 28,

@@ -1,7 +1,7 @@
 ghost use Rattle.std.specs.Prelude.{◌≡◌, replicate};
 
 /// How many values a receiver has borrowed on each channel.
-#[derive(Drop)]
+#[derive(Debug, PartialEq, Eq, Drop)]
 pub struct BorrowCounters {
     pub counts: [u64; 64],
 }

@@ -117,8 +117,8 @@ fn set_up<S: DynamicStorage>(
 }
 
 impl Builder {
-    /// Creates a port over a storage.
-    fn create<S: DynamicStorage>(
+    /// Creates a port of a connection, over an absent storage or beside the other port.
+    pub fn create<S: DynamicStorage>(
         &self,
         storage: &mut S,
         port: Port,

@@ -9,6 +9,7 @@ mod creation;
 mod error;
 mod fresh;
 mod laws;
+mod numbered;
 mod numbers;
 mod port;
 mod port_states;
@@ -22,4 +23,5 @@ pub use error::{
     ChannelStateNewError, DynamicStorageOpenError, PortCloseError, ZeroCopyCreationError,
 };
 pub use laws::{port_refusals_leave, ports_in_either_order, small_room};
+pub use numbered::Numbered;
 pub use port::{Port, PortToken};

@@ -1,12 +1,14 @@
 ghost use Rattle.std.specs.Prelude.{◌≡◌};
 ghost use Rattle.connection_ports.specs.Numbers.{creation_number, as_creation, close_number, state_number};
 
-use crate::{ChannelStateNewError, DynamicStorageOpenError, PortCloseError, ZeroCopyCreationError};
+use crate::{
+    ChannelStateNewError, DynamicStorageOpenError, Numbered, PortCloseError, ZeroCopyCreationError,
+};
 
-impl ZeroCopyCreationError {
-    pub fn number(self) -> u64
-        ensures { result ≡ creation_number self }
-    {
+impl Numbered for ZeroCopyCreationError {
+    ghost number = { creation_number };
+
+    fn number(self) -> u64 {
         match self {
             ZeroCopyCreationError::SettingTooLarge => 1,
             ZeroCopyCreationError::RoomTooSmall => 2,
@@ -44,20 +46,20 @@ impl From<DynamicStorageOpenError> for ZeroCopyCreationError {
     }
 }
 
-impl PortCloseError {
-    pub fn number(self) -> u64
-        ensures { result ≡ close_number self }
-    {
+impl Numbered for PortCloseError {
+    ghost number = { close_number };
+
+    fn number(self) -> u64 {
         match self {
             PortCloseError::Unsound => 50,
         }
     }
 }
 
-impl ChannelStateNewError {
-    pub fn number(self) -> u64
-        ensures { result ≡ state_number self }
-    {
+impl Numbered for ChannelStateNewError {
+    ghost number = { state_number };
+
+    fn number(self) -> u64 {
         match self {
             ChannelStateNewError::ValueOutOfBounds => 52,
         }

@@ -1,9 +1,9 @@
-ghost use Rattle.std.specs.Prelude.{◌≡◌, ◌+◌, IfOk, if◌then◌else◌, Some, None};
-ghost use Rattle.std.specs.Prelude.{◌==◌};
+ghost use Rattle.std.specs.Prelude.{◌≡◌, ◌+◌, IfOk, if◌then◌else◌, Some, None, ◌==◌};
 ghost use Rattle.connection_words.specs.PortStates.{state_word};
 ghost use Rattle.connection_ports.specs.Numbers.{creation_number, refused_by, fault_of, bit_of};
 ghost use Rattle.connection_ports.specs.Creation.{holds};
 ghost use Rattle.connection_ports.specs.Closing.{state_without};
+ghost use Rattle.connection_ports.specs.Laws.{other};
 ghost use Rattle.connection_ports.specs.declared.error.ZeroCopyCreationError.TheVariants as creation;
 
 use crate::{Port, ZeroCopyCreationError};
@@ -30,6 +30,16 @@ impl From<UnknownPortState> for ZeroCopyCreationError {
 }
 
 impl Port {
+    /// The other port.
+    pub fn other(self) -> Port
+        ensures { result ≡ other self }
+    {
+        match self {
+            Port::Sender => Port::Receiver,
+            Port::Receiver => Port::Sender,
+        }
+    }
+
     /// The port state with this port more, or why the port cannot join.
     pub(crate) fn joins(self, state: PortState) -> Result<PortState, ZeroCopyCreationError>
         ensures answer { refused_by creation_number result ≡ (if holds self (state_word state) then Some 7 else if state_word state == 128 then Some 8 else None) }

@@ -6,13 +6,13 @@ use Rattle.connection_words.specs.declared.settings.Settings.{Settings}
 use Rattle.connection_words.specs.Settings.{channels}
 use Rattle.connection_ports.specs.declared.port.Port.{Port}
 use Rattle.channel_laws.specs.Calls.{State, state_of}
+use Rattle.blocking_send.specs.declared.waiting.Waiting.{Waiting}
 use Rattle.blocking_send.specs.Waits.{Pending, elapsed}
 use Rattle.history.specs.Events.{Event, Answered, Runs}
 use Rattle.history.specs.Guarantee.{Kept}
 use Rattle.history.proofs.Theorem.{holds}
 use Rattle.history_run.specs.declared.call.Call.{Call}
 use Rattle.history_run.specs.declared.call.Call.TheVariants as call
-use Rattle.history_run.specs.declared.pending_send.PendingSend.{PendingSend}
 use Rattle.history_run.specs.declared.answer.Answer.{Answer}
 use Rattle.history_run.specs.Course.{end_of, Course}
 use Rattle.history_run.specs.Made.{Acts, Held, held, views, slot_of, steps, event_of, leaves_if, next, told, listed, events}
@@ -67,14 +67,14 @@ module _ {P : Type 0} (acts : Acts P) where
               (holds t end.connection es fs c created.fresh (rw e runs) (subst (λ (found : Settings). c < channels found) (sym created.asked) low) names);
         }
 
-    start_is : (k : Condition) (left counts : List ℕ) (waits : List (Option PendingSend))
+    start_is : (k : Condition) (left counts : List ℕ) (waits : List (Option Waiting))
         → counts ≡ replicate 64 0 → waits ≡ replicate 64 None → state_of k left (replicate 64 0) ≡ opened first s state condition words
         → held (state_of k left counts) (views waits) ≡ start first s state condition words
     start_is k left counts waits e f g = rw (e, f) (ap (λ (t : State). held t (replicate 64 None)) g)
 
     -- the calls began at what the ports and the slots were
-    pub ran_from : (k : Condition) (left counts : List ℕ) (waits : List (Option PendingSend)) (xs : List (Call P)) (answers : List Answer)
-        (end : State) (last kept : List (Option PendingSend))
+    pub ran_from : (k : Condition) (left counts : List ℕ) (waits : List (Option Waiting)) (xs : List (Call P)) (answers : List Answer)
+        (end : State) (last kept : List (Option Waiting))
         → counts ≡ replicate 64 0 → waits ≡ replicate 64 None → state_of k left (replicate 64 0) ≡ opened first s state condition words → kept ≡ last
         → Course (next acts) (told acts) (held (state_of k left counts) (views waits)) xs answers (held end (views last))
         → Ran acts first s state condition words xs answers (held end (views kept))

@@ -5,26 +5,27 @@ use Rattle.std.proofs.lemmas.List.{map-set, get_or-map, length-map, set_past, ge
 use Rattle.dynamic_storage.specs.declared.condition.Condition.{Condition}
 use Rattle.zero_copy_connection.specs.Answers as calls
 use Rattle.channel_laws.specs.Calls.{state_of}
+use Rattle.blocking_send.specs.declared.waiting.Waiting.{Waiting}
+use Rattle.blocking_send.specs.Seen.{view_of}
 use Rattle.blocking_send.specs.Waits.{Pending, elapsed, goes, ends, step_outcome, step_words}
 use Rattle.history_run.specs.declared.call.Call.TheVariants as call
-use Rattle.history_run.specs.declared.pending_send.PendingSend.{PendingSend}
-use Rattle.history_run.specs.Made.{Acts, held, pending_in, views, slot_of, next}
+use Rattle.history_run.specs.Made.{Acts, held, views, slot_of, next}
 
 -- a slot is written, and read
-pub put_is : (waits : List (Option PendingSend)) (i : ℕ) (x y : Option PendingSend) → x ≡ y → views (set waits i x) ≡ set (views waits) i (option_map pending_in y)
-put_is waits i x y e = map-set (option_map pending_in) waits i x ∙ ap (λ (z : Option PendingSend). set (views waits) i (option_map pending_in z)) e
+pub put_is : (waits : List (Option Waiting)) (i : ℕ) (x y : Option Waiting) → x ≡ y → views (set waits i x) ≡ set (views waits) i (option_map view_of y)
+put_is waits i x y e = map-set (option_map view_of) waits i x ∙ ap (λ (z : Option Waiting). set (views waits) i (option_map view_of z)) e
 
-pub taken_is : (waits : List (Option PendingSend)) (i : ℕ) (d r : Option PendingSend) → i < length waits → r ≡ get_or waits i d → option_map pending_in r ≡ slot_of (views waits) i
-taken_is waits i d r l e = ap (option_map pending_in) e ∙ sym (get_or-map (option_map pending_in) waits i d None l)
+pub taken_is : (waits : List (Option Waiting)) (i : ℕ) (d r : Option Waiting) → i < length waits → r ≡ get_or waits i d → option_map view_of r ≡ slot_of (views waits) i
+taken_is waits i d r l e = ap (option_map view_of) e ∙ sym (get_or-map (option_map view_of) waits i d None l)
 
 -- there is no such slot
-past_long : (waits : List (Option PendingSend)) (i : ℕ) → length waits ≤ i → length (views waits) ≤ i
-past_long waits i l = rw (length-map waits (option_map pending_in)) l
+past_long : (waits : List (Option Waiting)) (i : ℕ) → length waits ≤ i → length (views waits) ≤ i
+past_long waits i l = rw (length-map waits (option_map view_of)) l
 
-pub put_past : (waits : List (Option PendingSend)) (i : ℕ) (v : Option Pending) → length waits ≤ i → views waits ≡ set (views waits) i v
+pub put_past : (waits : List (Option Waiting)) (i : ℕ) (v : Option Pending) → length waits ≤ i → views waits ≡ set (views waits) i v
 put_past waits i v l = sym (set_past (views waits) i v (past_long waits i l))
 
-pub taken_past : (waits : List (Option PendingSend)) (i : ℕ) → length waits ≤ i → None ≡ slot_of (views waits) i
+pub taken_past : (waits : List (Option Waiting)) (i : ℕ) → length waits ≤ i → None ≡ slot_of (views waits) i
 taken_past waits i l = sym (get_or_past (views waits) i None (past_long waits i l))
 
 module _ {P : Type 0} (acts : Acts P) (policy : P) (k : Condition) (words counts : List ℕ) (slots taken : List (Option Pending)) (i : ℕ)

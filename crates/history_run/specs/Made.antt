@@ -5,13 +5,13 @@ use Rattle.dynamic_storage.specs.declared.condition.Condition.{Condition}
 use Rattle.zero_copy_connection.specs.Answers as calls
 use Rattle.channel_laws.specs.Calls.{State, state_of, sends, receives, releases, reclaims, asks_data, asks_count, answered}
 use Rattle.channel_laws.specs.Calls as on
+use Rattle.blocking_send.specs.declared.waiting.Waiting.{Waiting}
 use Rattle.blocking_send.specs.declared.action.BackpressureToReceiverAction.{BackpressureToReceiverAction}
 use Rattle.blocking_send.specs.Waits.{Pending, begun, elapsed, goes, ends, step_outcome}
 use Rattle.blocking_send.specs.Seen.{view_of}
 use Rattle.history.specs.Events.{Event, made, stepped, leaves}
 use Rattle.history_run.specs.declared.call.Call.{Call}
 use Rattle.history_run.specs.declared.call.Call.TheVariants as call
-use Rattle.history_run.specs.declared.pending_send.PendingSend.{PendingSend}
 use Rattle.history_run.specs.declared.answer.Answer.{Answer}
 use Rattle.history_run.specs.declared.answer.Answer.TheVariants as answer
 
@@ -24,17 +24,14 @@ abbrev pub held : State → List (Option Pending) → Held
 held t slots = record { connection = t; slots = slots }
 
 -- pending sends by their slots
-abbrev pub pending_in : PendingSend → Pending
-pending_in p = view_of p.waiting
-
-abbrev pub views : List (Option PendingSend) → List (Option Pending)
-views waits = map (option_map pending_in) waits
+abbrev pub views : List (Option Waiting) → List (Option Pending)
+views waits = map (option_map view_of) waits
 
 abbrev pub slot_of : List (Option Pending) → ℕ → Option Pending
 slot_of slots id = slice_index_or slots id None
 
 -- what a storage, counters and slots hold
-abbrev pub held_in : {S : Type 0} → (S → Condition) → (S → List ℕ) → S → List ℕ → List (Option PendingSend) → Held
+abbrev pub held_in : {S : Type 0} → (S → Condition) → (S → List ℕ) → S → List ℕ → List (Option Waiting) → Held
 held_in condition words storage counts waits = held (state_of (condition storage) (words storage) counts) (views waits)
 
 -- what the policies answer, for how often they were asked and how long a send has been pending

@@ -2,7 +2,7 @@ use blocking_send::BackpressureToReceiverAction;
 use shm_allocator::PointerOffset;
 
 /// A call of a history, with its arguments.
-#[derive(Drop)]
+#[derive(Clone, Copy, Debug, PartialEq, Eq)]
 pub enum Call<P> {
     Send {
         value: PointerOffset,

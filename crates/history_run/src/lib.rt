@@ -4,7 +4,6 @@
 mod answer;
 mod call;
 mod errors;
-mod pending_send;
 mod performing;
 mod ports;
 mod run;
@@ -13,7 +12,6 @@ mod slots;
 
 pub use answer::Answer;
 pub use call::Call;
-pub use pending_send::PendingSend;
 pub use performing::perform;
-pub use run::{Run, RunError};
+pub use run::{Ports, Run, RunError};
 pub use running::{free_slots, run_history};

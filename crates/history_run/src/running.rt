@@ -6,16 +6,15 @@ ghost use Rattle.history_run.specs.Ran.{Open, Ran, Unmade};
 
 use crate::performing::perform;
 use crate::ports::create_ports;
-use crate::run::{Memory, Ports};
-use crate::{Answer, Call, PendingSend, Run, RunError};
-use blocking_send::BackpressurePolicy;
-use connection_ports::{BorrowCounters, ChannelState, Port};
-use connection_words::Settings;
+use crate::run::Memory;
+use crate::{Answer, Call, Run, RunError};
+use blocking_send::{BackpressurePolicy, Waiting};
+use connection_ports::{BorrowCounters, Builder, Port};
 use dynamic_storage::{Condition, DynamicStorage};
 use std::alloc::{AllocError, Global};
 
 /// Slots with no pending send in them.
-pub fn free_slots(heap: Global) -> Result<Vec<Option<PendingSend>>, AllocError>
+pub fn free_slots(heap: Global) -> Result<Vec<Option<Waiting>>, AllocError>
     ensures { IfOk result (λ waits. waits.items ≡ replicate 64 None) }
 {
     let mut waits = Vec::with_capacity(heap, 64)?;
@@ -39,7 +38,7 @@ fn reserve(heap: Global, calls: usize) -> Result<Memory, AllocError>
 fn make_calls<S: DynamicStorage, P: BackpressurePolicy>(
     storage: &mut S,
     counters: &mut BorrowCounters,
-    waits: &mut [Option<PendingSend>],
+    waits: &mut [Option<Waiting>],
     calls: &[Call<P>],
     mut answers: Vec<Answer>,
 ) -> Vec<Answer>
@@ -61,12 +60,11 @@ pub fn run_history<S: DynamicStorage, P: BackpressurePolicy>(
     heap: Global,
     storage: &mut S,
     first: Port,
-    settings: Settings,
-    state: ChannelState,
+    builder: &Builder,
     calls: &[Call<P>],
 ) -> Result<Run, RunError>
-    ensures ran { MatchResult result (λ run. Ran P.BackpressurePolicy.acts first settings state.0 (S.DynamicStorage.condition storage.old) (S.DynamicStorage.words storage.old) calls.now run.answers.items (held_in S.DynamicStorage.condition S.DynamicStorage.words storage.new run.counters.counts run.waits.items)) (λ error. Unmade error first settings (S.DynamicStorage.condition storage.old) (S.DynamicStorage.words storage.old)) }
-    ensures ports { IfOk result (λ run. Open port.Sender run.sender × Open port.Receiver run.receiver) }
+    ensures ran { MatchResult result (λ run. Ran P.BackpressurePolicy.acts first builder.now.settings builder.now.initial_channel_state.0 (S.DynamicStorage.condition storage.old) (S.DynamicStorage.words storage.old) calls.now run.answers.items (held_in S.DynamicStorage.condition S.DynamicStorage.words storage.new run.ports.counters.counts run.waits.items)) (λ error. Unmade error first builder.now.settings (S.DynamicStorage.condition storage.old) (S.DynamicStorage.words storage.old)) }
+    ensures ports { IfOk result (λ run. Open port.Sender run.ports.sender × Open port.Receiver run.ports.receiver) }
     ensures left { OnErr result ((S.DynamicStorage.condition storage.new ≡ S.DynamicStorage.condition storage.old) × (S.DynamicStorage.words storage.new ≡ S.DynamicStorage.words storage.old)) }
     ensures outside { S.DynamicStorage.outside storage.new ≡ S.DynamicStorage.outside storage.old }
 {
@@ -74,19 +72,16 @@ pub fn run_history<S: DynamicStorage, P: BackpressurePolicy>(
     let Condition::Absent = storage.condition() else {
         return Err(RunError::NotAbsent);
     };
-    let Ports {
-        sender,
-        receiver,
-        mut counters,
-    } = match create_ports(storage, first, settings, state) {
-        Ok(ports) => ports,
-        Err(error) => return Err(RunError::Creation(error)),
-    };
-    let answers = make_calls(storage, &mut counters, waits.as_mut_slice(), calls, answers);
+    let mut ports = create_ports(storage, first, builder)?;
+    let answers = make_calls(
+        storage,
+        &mut ports.counters,
+        waits.as_mut_slice(),
+        calls,
+        answers,
+    );
     Ok(Run {
-        sender,
-        receiver,
-        counters,
+        ports,
         waits,
         answers,
     })

@@ -5,11 +5,12 @@ use crate::{
     ChannelError, ZeroCopyReceiveError, ZeroCopyReclaimError, ZeroCopyReleaseError,
     ZeroCopySendError,
 };
+use connection_ports::Numbered;
 
-impl ChannelError {
-    pub fn number(self) -> u64
-        ensures { result ≡ channel_number self }
-    {
+impl Numbered for ChannelError {
+    ghost number = { channel_number };
+
+    fn number(self) -> u64 {
         match self {
             ChannelError::Unsound => 50,
             ChannelError::BadChannel => 51,
@@ -17,10 +18,10 @@ impl ChannelError {
     }
 }
 
-impl ZeroCopySendError {
-    pub fn number(self) -> u64
-        ensures { result ≡ send_number self }
-    {
+impl Numbered for ZeroCopySendError {
+    ghost number = { send_number };
+
+    fn number(self) -> u64 {
         match self {
             ZeroCopySendError::Channel(refusal) => refusal.number(),
             ZeroCopySendError::ReceiveBufferFull => 20,
@@ -35,10 +36,10 @@ impl ZeroCopySendError {
     }
 }
 
-impl ZeroCopyReceiveError {
-    pub fn number(self) -> u64
-        ensures { result ≡ receive_number self }
-    {
+impl Numbered for ZeroCopyReceiveError {
+    ghost number = { receive_number };
+
+    fn number(self) -> u64 {
         match self {
             ZeroCopyReceiveError::Channel(refusal) => refusal.number(),
             ZeroCopyReceiveError::ReceiveWouldExceedMaxBorrowValue => 40,
@@ -46,10 +47,10 @@ impl ZeroCopyReceiveError {
     }
 }
 
-impl ZeroCopyReleaseError {
-    pub fn number(self) -> u64
-        ensures { result ≡ release_number self }
-    {
+impl Numbered for ZeroCopyReleaseError {
+    ghost number = { release_number };
+
+    fn number(self) -> u64 {
         match self {
             ZeroCopyReleaseError::Channel(refusal) => refusal.number(),
             ZeroCopyReleaseError::RetrieveBufferFull => 41,
@@ -58,10 +59,10 @@ impl ZeroCopyReleaseError {
     }
 }
 
-impl ZeroCopyReclaimError {
-    pub fn number(self) -> u64
-        ensures { result ≡ reclaim_number self }
-    {
+impl Numbered for ZeroCopyReclaimError {
+    ghost number = { reclaim_number };
+
+    fn number(self) -> u64 {
         match self {
             ZeroCopyReclaimError::Channel(refusal) => refusal.number(),
             ZeroCopyReclaimError::ReceiverReturnedCorruptedPointerOffset => 32,
