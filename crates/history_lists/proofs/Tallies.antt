@@ -1,5 +1,5 @@
 -- The lists that the calls and answers say are those of the books.
-use Rattle.std.proofs.Common.{◌≡◌, ℕ, zero, suc, ◌+◌, ◌<◌, Bool, true, false, cond, eqb, List, [], ◌∷◌, ◌++◌, length, get_or, take, IfOk, Some, None, Ok, Err, Option, Result, sym, refl, ap, ◌∙◌, arith}
+use Rattle.std.proofs.Common.{◌≡◌, ◌⊎◌, inl, inr, ℕ, Bool, true, false, cond, eqb, List, [], ◌∷◌, ◌++◌, length, IfOk, Some, None, Ok, Err, Option, Result, sym, refl, ap, ◌∙◌, arith}
 use Rattle.std.specs.Option.{option_map}
 use Rattle.std.proofs.lemmas.List.{append-nil}
 use Rattle.zero_copy_connection.specs.Answers as calls
@@ -17,24 +17,12 @@ use Rattle.history_run.specs.Course.{answers_of}
 use Rattle.history_run.specs.Made.{Acts, Held, slot_of, steps, event_of, next, plain, sent, answer_of, answer_else, told, listed, events}
 use Rattle.history_lists.specs.Lists.{Tally, value_in, granted, moves, tally_of, tally_in, empty, none, moved_by_send, moves_of, moved, moved_to, tallied}
 
--- one call more
-tallied_suc : {P : Type 0} (c : ℕ) (xs : List (Call P)) (answers : List Answer) (i : ℕ) (x : Call P) (a : Answer) (t : Tally)
-    → i < length xs → i < length answers
-    → tallied c (take (suc i) xs) (take (suc i) answers) t ≡ moved c (moves_of (get_or xs i x) (get_or answers i a)) (tallied c (take i xs) (take i answers) t)
-tallied_suc c [] answers i x a t l m = absurd (omega arith)
-tallied_suc c (y ∷ xs) [] i x a t l m = absurd (omega arith)
-tallied_suc c (y ∷ xs) (b ∷ answers) zero x a t l m = refl
-tallied_suc c (y ∷ xs) (b ∷ answers) (suc i) x a t l m = tallied_suc c xs answers i x a (moved c (moves_of y b) t) (omega arith) (omega arith)
-
-pub tallied_more : {P : Type 0} (c : ℕ) (xs : List (Call P)) (answers : List Answer) (i : ℕ) (x : Call P) (a : Answer) (t now then : Tally)
-    → i < length xs → i < length answers → x ≡ get_or xs i x → now ≡ tallied c (take i xs) (take i answers) t
-    → then ≡ moved c (moves_of x (get_or answers i a)) now → then ≡ tallied c (take (i + 1) xs) (take (i + 1) answers) t
-tallied_more c xs answers i x a t now then l m is e f =
-    let one : i + 1 ≡ suc i = omega arith in
-    rw one
-    (f
-    ∙ (ap (λ y. moved c (moves_of y (get_or answers i a)) now) is
-    ∙ (ap (moved c (moves_of (get_or xs i x) (get_or answers i a))) e ∙ sym (tallied_suc c xs answers i x a t l m))))
+-- no call or no answer is left
+pub tallied_all : {P : Type 0} (c : ℕ) (xs : List (Call P)) (answers : List Answer) (t : Tally) → (length xs ≡ 0) ⊎ (length answers ≡ 0) → tallied c xs answers t ≡ t
+tallied_all c [] answers t e = refl
+tallied_all c (x ∷ xs) [] t e = refl
+tallied_all c (x ∷ xs) (a ∷ answers) t (inl e) = absurd (omega arith)
+tallied_all c (x ∷ xs) (a ∷ answers) t (inr e) = absurd (omega arith)
 
 by_cond : (q : Bool) (x y : Books) → cond q (tally_of x) (tally_of y) ≡ tally_of (cond q x y)
 by_cond true x y = refl
@@ -123,15 +111,11 @@ tallies acts c b h (x ∷ xs) =
     ∙ (tallies acts c (booked_if c b (event_of acts h x)) (next acts h x) xs
     ∙ ap tally_of (sym (follow_if c b (event_of acts h x) (events acts (next acts h x) xs))))
 
-pub long : {P : Type 0} (acts : Acts P) (h : Held) (xs : List (Call P)) → length xs ≡ length (answers_of (next acts) (told acts) h xs)
-long acts h [] = refl
-long acts h (x ∷ xs) = ap suc (long acts (next acts h x) xs)
-
 -- what was tallied is what the books say, for all histories with these calls and answers
 pub listed_as_books : {P E : Type 0} (c : ℕ) (xs : List (Call P)) (answers : List Answer) (r : Result Lists E)
-    → IfOk r (λ lists. length xs ≡ length answers → tally_in lists ≡ tallied c xs answers empty)
+    → IfOk r (λ lists. tally_in lists ≡ tallied c xs answers empty)
     → IfOk r
     (λ lists. (acts : Acts P) (h : Held) → answers ≡ answers_of (next acts) (told acts) h xs → tally_in lists ≡ tally_of (books c (events acts h xs)))
 listed_as_books c xs answers (Err e) f = tt
 listed_as_books c xs answers (Ok lists) f = λ acts h e.
-    f (long acts h xs ∙ ap length (sym e)) ∙ (ap (λ (as-told : List Answer). tallied c xs as-told empty) e ∙ tallies acts c unused h xs)
+    f ∙ (ap (λ (as-told : List Answer). tallied c xs as-told empty) e ∙ tallies acts c unused h xs)

@@ -16,11 +16,8 @@ fn take_out(list: &mut Vec<u64>, value: Option<u64>)
     let Some(value) = value else {
         return;
     };
-    for i in 0..list.len() {
-        if list[i] == value {
-            let _ = list.remove(i);
-            return;
-        }
+    if let Some(first) = list.iter().position(|entry| *entry == value) {
+        let _ = list.remove(first);
     }
 }
 
@@ -157,14 +154,11 @@ fn tally<P>(
     answers: &[Answer],
     channel: u64,
 ) -> Result<Lists, AllocError>
-    ensures { IfOk result (λ lists. length calls.now ≡ length answers.now → tally_in lists ≡ tallied channel calls.now answers.now empty) }
+    ensures { IfOk result (λ lists. tally_in lists ≡ tallied channel calls.now answers.now empty) }
 {
     let mut lists = Lists::new(heap);
-    for i in 0..calls.len() {
-        if i >= answers.len() {
-            return Ok(lists);
-        }
-        lists.add(&calls[i], answers[i], channel)?;
+    for (call, answer) in calls.iter().zip(answers) {
+        lists.add(call, *answer, channel)?;
     }
     Ok(lists)
 }

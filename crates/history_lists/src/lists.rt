@@ -1,5 +1,5 @@
 /// The values of a channel, by where they are.
-#[derive(Drop)]
+#[derive(Debug, PartialEq, Eq, Drop)]
 pub struct Lists {
     /// Sent, and neither received nor evicted.
     pub waiting: Vec<u64>,
@@ -10,7 +10,7 @@ pub struct Lists {
 }
 
 /// What a call moved on a channel.
-#[derive(Clone, Copy)]
+#[derive(Clone, Copy, Debug, PartialEq, Eq)]
 pub(crate) struct Moves {
     pub(crate) channel: u64,
     pub(crate) sent: Option<u64>,

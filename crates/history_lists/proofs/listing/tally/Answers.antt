@@ -1,17 +1,11 @@
-use Rattle.std.proofs.Common.{arith}
-use Rattle.std.proofs.lemmas.List.{take_all}
-use Rattle.history_lists.specs.Lists.{empty}
-use Rattle.history_lists.proofs.Tallies.{tallied_more}
+use Rattle.std.proofs.Common.{◌≡◌, ◌⊎◌, length, inl, inr, sym, ◌∙◌}
+use Rattle.history_lists.specs.Lists.{tally_in}
+use Rattle.history_lists.proofs.Tallies.{tallied_all}
 use Rattle.history_lists.proofs.listing.tally.Goals as goal
 
-pub returns-then-i-answers : goal.returns-then-i-answers
-returns-then-i-answers g c = λ same. absurd (omega (arith, same, c.if-i-answers.true, c.loop-i-test.true))
-
-pub loop-i-preserved : goal.loop-i-preserved
-loop-i-preserved g c = λ same.
-    tallied_more c.args.channel c.args.calls.now c.args.answers.now c.loop-i.i c.index-calls-i.result _ empty _ _
-    c.loop-i-test.true (omega (arith, same, c.loop-i-test.true)) c.index-calls-i.is (c.loop-i.invariant same) c.in_ok-add.ensures
-
 pub returns : goal.returns
-returns g c = λ same.
-    rw (take_all c.loop-i.i c.args.calls.now c.loop-i-test.false, take_all c.loop-i.i c.args.answers.now (omega (arith, same, c.loop-i-test.false))) at (c.loop-i.invariant same)
+returns g c =
+    let left = c.loop-call.call-iterator in
+    let done : (length left.a.rest.now ≡ 0) ⊎ (length left.b.rest.now ≡ 0) =
+    elim c.in-None.ensures.steps [ inl e ↦ inl e.1.0 | inr e ↦ inr e.1.0 ] in
+    sym (tallied_all c.args.channel left.a.rest.now left.b.rest.now (tally_in c.loop-call.lists) done) ∙ c.loop-call.invariant
