@@ -1,22 +1,25 @@
 use blocking_send::{BackpressureToReceiverAction, FixedAction};
-use connection_ports::{ChannelState, Port, close};
+use connection_ports::{Builder, ChannelState, Port, close};
 use connection_words::Settings;
 use dynamic_storage::{Condition, DynamicStorage};
 use history_lists::{Lists, lists_of};
-use history_run::{Answer, Call, Run, run_history};
+use history_run::{Answer, Call, Ports, Run, run_history};
 use shm_allocator::PointerOffset;
 use std::alloc::Global;
 use std::process::Abort;
 use storage_backings::ProcessLocal;
 
-fn small() -> Settings {
-    Settings {
-        buffer_size: 1,
-        max_borrowed_samples_per_channel: 1,
-        number_of_samples_per_segment: 8,
-        number_of_segments: 1,
-        number_of_channels: 1,
-        enable_safe_overflow: true,
+fn small() -> Builder {
+    Builder {
+        settings: Settings {
+            buffer_size: 1,
+            max_borrowed_samples_per_channel: 1,
+            number_of_samples_per_segment: 8,
+            number_of_segments: 1,
+            number_of_channels: 1,
+            enable_safe_overflow: true,
+        },
+        initial_channel_state: ChannelState::open(),
     }
 }
 
@@ -47,19 +50,14 @@ fn answers_to(
     calls: &[Call<FixedAction>],
 ) -> Vec<Answer> {
     let mut storage = ProcessLocal::new();
-    let made = run_history(
-        heap,
-        &mut storage,
-        first,
-        small(),
-        ChannelState::open(),
-        calls,
-    );
+    let made = run_history(heap, &mut storage, first, &small(), calls);
     let Ok(
         Run {
-            sender,
-            receiver,
-            counters: _,
+            ports: Ports {
+                sender,
+                receiver,
+                counters: _,
+            },
             waits: _,
             answers,
         },
@@ -85,41 +83,12 @@ fn lists_after(
     lists
 }
 
-fn is_sent(answer: Option<&Answer>, wanted: u64) -> bool {
-    match answer {
-        Some(Answer::Sent { value, .. }) => *value == wanted,
-        _ => false,
+fn sent(value: u64, evicted: Option<u64>) -> Answer {
+    Answer::Sent {
+        value,
+        channel: 0,
+        evicted,
     }
-}
-
-fn evicts(answer: Option<&Answer>, wanted: u64) -> bool {
-    match answer {
-        Some(
-            Answer::Sent {
-                evicted: Some(value),
-                ..
-            },
-        ) => *value == wanted,
-        _ => false,
-    }
-}
-
-fn is_value(answer: Option<&Answer>, wanted: u64) -> bool {
-    match answer {
-        Some(Answer::Value(value)) => *value == wanted,
-        _ => false,
-    }
-}
-
-fn is_refused(answer: Option<&Answer>, wanted: u64) -> bool {
-    match answer {
-        Some(Answer::Refused(number)) => *number == wanted,
-        _ => false,
-    }
-}
-
-fn is_only(list: &[u64], wanted: u64) -> bool {
-    list.len() == 1 && list[0] == wanted
 }
 
 // The second send evicts the first, and one value may be on loan.
@@ -128,13 +97,16 @@ fn evicted_and_on_loan(rt: HostRuntime) {
     let receive = Call::Receive { channel: 0 };
     let calls = [send(64), send(128), receive, Call::Receive { channel: 0 }];
     let answers = answers_to(&rt, rt.alloc(), Port::Sender, &calls);
-    assert!(rt; is_sent(answers.get(0), 16384));
-    assert!(rt; evicts(answers.get(1), 16384));
-    assert!(rt; is_value(answers.get(2), 32768));
-    assert!(rt; is_refused(answers.get(3), 40));
+    let wanted = [
+        sent(16384, None),
+        sent(32768, Some(16384)),
+        Answer::Value(32768),
+        Answer::Refused(40),
+    ];
+    assert_eq!(rt; answers.as_slice(), wanted.as_slice());
     let lists = lists_after(&rt, rt.alloc(), &calls, answers.as_slice());
     assert!(rt; lists.waiting.is_empty());
-    assert!(rt; is_only(lists.on_loan.as_slice(), 32768));
+    assert!(rt; lists.on_loan.as_slice() == [32768]);
     assert!(rt; lists.returned.is_empty());
 }
 
@@ -147,10 +119,11 @@ fn returned(rt: HostRuntime) {
     };
     let calls = [send(64), Call::Receive { channel: 0 }, release];
     let answers = answers_to(&rt, rt.alloc(), Port::Receiver, &calls);
-    assert!(rt; matches!(answers.get(2), Some(Answer::Nothing)));
+    let wanted = [sent(16384, None), Answer::Value(16384), Answer::Nothing];
+    assert_eq!(rt; answers.as_slice(), wanted.as_slice());
     let lists = lists_after(&rt, rt.alloc(), &calls, answers.as_slice());
     assert!(rt; lists.on_loan.is_empty());
-    assert!(rt; is_only(lists.returned.as_slice(), 16384));
+    assert!(rt; lists.returned.as_slice() == [16384]);
 }
 
 // A pending send that finds room ends with its first step, and its value waits.
@@ -162,8 +135,7 @@ fn sent_by_a_step(rt: HostRuntime) {
     };
     let calls = [begin(64), step];
     let answers = answers_to(&rt, rt.alloc(), Port::Sender, &calls);
-    assert!(rt; matches!(answers.get(0), Some(Answer::Begun)));
-    assert!(rt; is_sent(answers.get(1), 16384));
+    assert_eq!(rt; answers.as_slice(), [Answer::Begun, sent(16384, None)]);
     let lists = lists_after(&rt, rt.alloc(), &calls, answers.as_slice());
-    assert!(rt; is_only(lists.waiting.as_slice(), 16384));
+    assert!(rt; lists.waiting.as_slice() == [16384]);
 }
