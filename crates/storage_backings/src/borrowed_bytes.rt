@@ -104,7 +104,7 @@ impl DynamicStorage for BorrowedBytes<'_> {
         if self.count() == 0 {
             Condition::Broken
         } else {
-            Condition::from_code(load(self.memory, 0))
+            Condition::from(load(self.memory, 0))
         }
     }
 
@@ -132,7 +132,7 @@ impl DynamicStorage for BorrowedBytes<'_> {
 
     fn set_condition(&mut self, to: Stage) -> bool {
         if self.condition().is_settable() {
-            store(self.memory, 0, to.code());
+            store(self.memory, 0, u64::from(to));
             true
         } else {
             false

@@ -52,7 +52,7 @@ impl DynamicStorage for BorrowedWords<'_> {
         if self.memory.len() == 0 {
             Condition::Broken
         } else {
-            Condition::from_code(self.memory[0])
+            Condition::from(self.memory[0])
         }
     }
 
@@ -83,7 +83,7 @@ impl DynamicStorage for BorrowedWords<'_> {
 
     fn set_condition(&mut self, to: Stage) -> bool {
         if self.condition().is_settable() {
-            self.memory[0] = to.code();
+            self.memory[0] = u64::from(to);
             true
         } else {
             false

@@ -32,11 +32,7 @@ impl DynamicStorage for ProcessLocal {
     ghost outside = { λ _. [] };
 
     fn condition(&self) -> Condition {
-        match self.stage {
-            Stage::Absent => Condition::Absent,
-            Stage::Forming => Condition::Forming,
-            Stage::Ready => Condition::Ready,
-        }
+        self.stage.into()
     }
 
     fn len(&self) -> u64 {

@@ -60,7 +60,7 @@ impl<S: DynamicStorage> DynamicStorage for Window<S> {
 
     fn condition(&self) -> Condition {
         match self.below.read(self.place) {
-            Some(code) => Condition::from_code(code),
+            Some(code) => Condition::from(code),
             None => Condition::Broken,
         }
     }
@@ -94,7 +94,7 @@ impl<S: DynamicStorage> DynamicStorage for Window<S> {
 
     fn set_condition(&mut self, to: Stage) -> bool {
         if self.condition().is_settable() {
-            self.below.write(self.place, to.code())
+            self.below.write(self.place, u64::from(to))
         } else {
             false
         }
