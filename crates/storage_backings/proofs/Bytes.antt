@@ -1,9 +1,10 @@
 -- Words in bytes: their number, each of them, and what a write of eight bytes leaves.
-use Rattle.std.proofs.Common.{◌≡◌, ℕ, ◌+◌, ◌*◌, ◌/◌, ◌%◌, ◌^◌, ◌<◌, ◌≤◌, ◌⊎◌, List, [], ◌∷◌, length, get_or, drop, set, sym, ap, ◌∙◌, inl, inr, ⊎_elim, add-zero, arith, rules}
+use Rattle.std.proofs.Common.{◌≡◌, ℕ, ◌+◌, ◌*◌, ◌/◌, ◌%◌, ◌^◌, ◌<◌, ◌≤◌, ◌⊎◌, List, [], ◌∷◌, length, get_or, take, drop, set, zero, suc, refl, sym, ap, ◌∙◌, inl, inr, ⊎_elim, add-zero, zero-mul, arith, rules}
 use Rattle.std.proofs.lemmas.List.FromFn.{length-map-range_with_len, get_or-map-range_with_len}
 use borrow.Rule.Slice.PartMut.{put_mid}
-use Rattle.std.proofs.lemmas.List.{places, ext_get_or, length-set, get_or-set_same, get_or-set_other}
+use Rattle.std.proofs.lemmas.List.{places, ext_get_or, length-set, get_or-set_same, get_or-set_other, get_or-take, get_or-drop, drop-drop}
 use Rattle.std.proofs.lemmas.Slice.{drop-put_mid}
+use Rattle.std.specs.Simd.{first_chunks}
 use Rattle.dynamic_storage.proofs.Digits.{little_digits}
 use Rattle.storage_backings.specs.Bytes.{little_at, Stored, words_in, odd_bytes}
 
@@ -19,7 +20,25 @@ word_is bytes k h = get_or-map-range_with_len (λ k. little_at bytes (8 * k)) 0 
 pub word_fits : (bytes : List ℕ) (k : ℕ) → k < length (words_in bytes) → 8 * k + 8 ≤ length bytes
 word_fits bytes k h = let e = length_words bytes in omega arith
 
--- k stands for 8, since a numeral would compute the list apart
+chunk_is : (n m k : ℕ) (xs other : List ℕ) → k < m → get_or (first_chunks n m xs) k other ≡ take n (drop (k * n) xs)
+chunk_is n zero k xs other h = absurd (omega arith)
+chunk_is n (suc m) zero xs other h = rw zero-mul refl
+chunk_is n (suc m) (suc k) xs other h =
+    chunk_is n m k (drop n xs) other (omega arith) ∙ ap (take n) (drop-drop (k * n) n xs ∙ ap (λ i. drop i xs) (omega arith))
+
+-- k stands for 8 here and below, since a numeral would compute the list apart
+little_taken : (xs : List ℕ) (p k : ℕ) → k ≡ 8 → little_at (take k (drop p xs)) 0 ≡ little_at xs p
+little_taken xs p k e =
+    let at : (i : ℕ) → i < k → get_or (take k (drop p xs)) i 0 ≡ get_or xs (p + i) 0 = λ i h. get_or-take k (drop p xs) i 0 h ∙ get_or-drop p xs i 0 in
+    let at0 : get_or (take k (drop p xs)) 0 0 ≡ get_or xs p 0 = rw add-zero at (at 0 (omega arith)) in
+    rw (at0, at 1 (omega arith), at 2 (omega arith), at 3 (omega arith), at 4 (omega arith), at 5 (omega arith), at 6 (omega arith), at 7 (omega arith))
+
+-- a chunk of eight bytes makes the word at its index
+pub chunk_word : (bytes chunk : List ℕ) (chunks : List (List ℕ)) (k : ℕ) → k < length bytes / 8 → chunks ≡ first_chunks 8 (length bytes / 8) bytes → chunk ≡ get_or chunks k chunk → little_at chunk 0 ≡ get_or (words_in bytes) k 0
+chunk_word bytes chunk chunks k h e at =
+    let taken : chunk ≡ take 8 (drop (k * 8) bytes) = at ∙ (ap (λ l. get_or l k chunk) e ∙ chunk_is 8 (length bytes / 8) k bytes chunk h) in
+    ap (λ l. little_at l 0) taken ∙ (little_taken bytes (k * 8) 8 refl ∙ (ap (little_at bytes) (omega arith) ∙ sym (word_is bytes k h)))
+
 module _ (a k : ℕ) (xs ys : List ℕ) (inner : a + k ≤ length xs) (eight : length ys ≡ k) where
   abbrev after : List ℕ
   after = put_mid a k xs ys
@@ -55,7 +74,7 @@ module _ (a k : ℕ) (xs ys : List ℕ) (inner : a + k ≤ length xs) (eight : l
 abbrev pub digits : ℕ → List ℕ
 digits w = w % 256 ∷ w / 256 % 256 ∷ w / 65536 % 256 ∷ w / 16777216 % 256 ∷ w / 4294967296 % 256 ∷ w / 1099511627776 % 256 ∷ w / 281474976710656 % 256 ∷ w / 72057594037927936 % 256 ∷ []
 
-pub stored_is : (a k : ℕ) (xs ys : List ℕ) (w : ℕ) → a + k ≤ length xs → k ≡ 8 → ys ≡ digits w → w < 2 ^ 64 → Stored xs a w (put_mid a k xs ys)
+stored_is : (a k : ℕ) (xs ys : List ℕ) (w : ℕ) → a + k ≤ length xs → k ≡ 8 → ys ≡ digits w → w < 2 ^ 64 → Stored xs a w (put_mid a k xs ys)
 stored_is a k xs ys w inner e y fit =
     let eight : length ys ≡ k = ap length y ∙ sym e in
     record {
@@ -83,10 +102,21 @@ module _ (xs : List ℕ) (i w : ℕ) (after : List ℕ) (s : Stored xs (8 * i) w
       let jx : j < length xs / 8 = rw (← s.same) (omega arith) in
       word_apart j jx ne ∙ sym (get_or-set_other (words_in xs) i j w 0 (λ e. ⊎_elim (λ lt. omega arith) (λ lt. omega arith) ne))
 
-  pub words_stored : words_in after ≡ set (words_in xs) i w
+  words_stored : words_in after ≡ set (words_in xs) i w
   words_stored =
       ext_get_or 0 (words_in after) (set (words_in xs) i w) (length_words after ∙ (ap (λ n. n / 8) s.same ∙ (sym (length_words xs) ∙ sym (length-set (words_in xs) i w)))) (λ j l. word_after j l (apart_or_same j i))
 
-  pub odd_stored : odd_bytes after ≡ odd_bytes xs
+  odd_stored : odd_bytes after ≡ odd_bytes xs
   unfolding odd_bytes
   odd_stored = let l = length_words xs in rw s.same (s.behind (8 * (length xs / 8)) (omega arith))
+
+-- the eight bytes of a word are written
+module _ (xs ys : List ℕ) (i w k : ℕ) (h : i < length (words_in xs)) (e : k ≡ 8) (y : ys ≡ digits w) (fit : w < 2 ^ 64) where
+  word_put : Stored xs (8 * i) w (put_mid (8 * i) k xs ys)
+  word_put = let inner = word_fits xs i h in stored_is (8 * i) k xs ys w (omega arith) e y fit
+
+  pub words_put : words_in (put_mid (8 * i) k xs ys) ≡ set (words_in xs) i w
+  words_put = words_stored xs i w (put_mid (8 * i) k xs ys) word_put h
+
+  pub odd_put : odd_bytes (put_mid (8 * i) k xs ys) ≡ odd_bytes xs
+  odd_put = odd_stored xs i w (put_mid (8 * i) k xs ys) word_put h

@@ -40,14 +40,11 @@ impl DynamicStorage for ProcessLocal {
     }
 
     fn read(&self, place: u64) -> Option<u64> {
-        if place < 512 {
-            Some(self.words[place as usize])
-        } else {
-            None
-        }
+        self.words.get(place as usize).copied()
     }
 
     fn write(&mut self, place: u64, word: u64) -> bool {
+        // After `get_mut` nothing would be proved of the array.
         if place < 512 {
             self.words[place as usize] = word;
             true
