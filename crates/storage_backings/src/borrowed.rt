@@ -60,9 +60,8 @@ impl<M: WordMemory> DynamicStorage for Borrowed<M> {
     ghost outside = { λ s. fixed_code (M.WordMemory.all_words s.memory) 0 ∷ M.WordMemory.rest s.memory };
 
     fn condition(&self) -> Condition {
-        self.memory
-            .load(0)
-            .map_or(Condition::Broken, Condition::from)
+        let code = self.memory.load(0);
+        code.map_or(Condition::Broken, Condition::from)
     }
 
     fn len(&self) -> u64 {

@@ -1,8 +1,9 @@
 -- Words with their bytes in reverse order.
-use Rattle.std.proofs.Common.{◌≡◌, ℕ, ◌+◌, ◌*◌, ◌/◌, ◌%◌, ◌^◌, ◌<◌, List, map, set, Some, None, ap, ◌∙◌, arith}
+use Rattle.std.proofs.Common.{◌≡◌, ℕ, ◌+◌, ◌*◌, ◌/◌, ◌%◌, ◌^◌, ◌<◌, List, map, set, Option, Some, None, ap, ◌∙◌, arith}
 use Rattle.std.proofs.lemmas.List.{length-map, get_or-map, map-set}
 use Rattle.std.proofs.lemmas.Nat.{div-mul-add, mod-mul-add}
 use Rattle.std.proofs.lemmas.Bool.Decides.{nat_tests}
+use Rattle.std.specs.Option.{MatchOption, IsSomeAnd}
 use Rattle.storage_layers.specs.Layers.{reversed}
 use Rattle.dynamic_storage.specs.Meaning.{word_at}
 use Rattle.dynamic_storage.proofs.Digits.{little_digits}
@@ -37,8 +38,8 @@ reversed_reversed word fit =
 pub map_written : (words : List ℕ) (place word : ℕ) → word < 2 ^ 64 → map reversed (set words place (reversed word)) ≡ set (map reversed words) place word
 map_written words place word fit = map-set reversed words place (reversed word) ∙ ap (λ w. set (map reversed words) place w) (reversed_reversed word fit)
 
-pub read_some : (words : List ℕ) (place word swapped : ℕ) → Some word ≡ word_at words place → swapped ≡ reversed word → Some swapped ≡ word_at (map reversed words) place
-read_some words place word swapped e f = grind (arith, nat_tests, length-map, get_or-map)
-
-pub read_none : (words : List ℕ) (place : ℕ) → None ≡ word_at words place → None ≡ word_at (map reversed words) place
-read_none words place e = grind (arith, nat_tests, length-map)
+-- the word at a place, reversed, is the word of the reversed words
+pub read_reversed : (words : List ℕ) (place : ℕ) (found turned : Option ℕ) → found ≡ word_at words place → MatchOption found (turned ≡ None) (λ word. IsSomeAnd turned (λ w. w ≡ reversed word)) → turned ≡ word_at (map reversed words) place
+read_reversed words place None turned e m = grind (arith, nat_tests, length-map)
+read_reversed words place (Some word) None e m = absurd m
+read_reversed words place (Some word) (Some w) e m = grind (arith, nat_tests, length-map, get_or-map)

@@ -20,8 +20,7 @@ impl<S: DynamicStorage> ByteSwapped<S> {
     pub fn into_below(self) -> S
         ensures { result ≡ self.below }
     {
-        let ByteSwapped { below: storage } = self;
-        storage
+        self.below
     }
 }
 
@@ -41,10 +40,7 @@ impl<S: DynamicStorage> DynamicStorage for ByteSwapped<S> {
     }
 
     fn read(&self, place: u64) -> Option<u64> {
-        match self.below.read(place) {
-            Some(word) => Some(word.swap_bytes()),
-            None => None,
-        }
+        self.below.read(place).map(u64::swap_bytes)
     }
 
     fn write(&mut self, place: u64, word: u64) -> bool {

@@ -30,24 +30,17 @@ impl<S: DynamicStorage> Window<S> {
     pub fn into_below(self) -> S
         ensures { result ≡ self.below }
     {
-        let Window {
-            below: storage,
-            place: _,
-            count: _,
-        } = self;
-        storage
+        self.below
     }
 
     /// Where the window's word at a place stands below, if there is one.
     fn place_below(&self, place: u64) -> Option<u64>
         ensures { result ≡ framed_at (S.DynamicStorage.words self.now.below) self.now.place self.now.count place }
     {
+        // A length is below 2^64, so a sum that overflows is past the end.
         let all = self.below.len();
-        if place < self.count && self.place < all && place < all - self.place - 1 {
-            Some(self.place + 1 + place)
-        } else {
-            None
-        }
+        let found = self.place.checked_add(1)?.checked_add(place)?;
+        (place < self.count && found < all).then_some(found)
     }
 }
 
@@ -59,44 +52,28 @@ impl<S: DynamicStorage> DynamicStorage for Window<S> {
     ghost outside = { λ w. around_window (S.DynamicStorage.words w.below) w.place w.count (S.DynamicStorage.condition w.below) (S.DynamicStorage.outside w.below) };
 
     fn condition(&self) -> Condition {
-        match self.below.read(self.place) {
-            Some(code) => Condition::from(code),
-            None => Condition::Broken,
-        }
+        let code = self.below.read(self.place);
+        code.map_or(Condition::Broken, Condition::from)
     }
 
     fn len(&self) -> u64 {
         let all = self.below.len();
-        if self.place >= all {
-            return 0;
-        }
-        let behind = all - self.place - 1;
-        if behind < self.count {
-            behind
-        } else {
-            self.count
-        }
+        let behind = all.saturating_sub(self.place).saturating_sub(1);
+        behind.min(self.count)
     }
 
     fn read(&self, place: u64) -> Option<u64> {
-        match self.place_below(place) {
-            Some(place) => self.below.read(place),
-            None => None,
-        }
+        self.below.read(self.place_below(place)?)
     }
 
     fn write(&mut self, place: u64, word: u64) -> bool {
-        match self.place_below(place) {
-            Some(place) => self.below.write(place, word),
-            None => false,
-        }
+        let Some(found) = self.place_below(place) else {
+            return false;
+        };
+        self.below.write(found, word)
     }
 
     fn set_condition(&mut self, to: Stage) -> bool {
-        if self.condition().is_settable() {
-            self.below.write(self.place, u64::from(to))
-        } else {
-            false
-        }
+        self.condition().is_settable() && self.below.write(self.place, to.into())
     }
 }
