@@ -68,15 +68,13 @@ impl PointerOffset {
     pub fn offset(&self) -> u64
         ensures { result ≡ offset_of self.now.0 }
     {
-        let (_, offset) = self.parts();
-        offset
+        self.parts().1
     }
 
     pub fn segment_id(&self) -> SegmentId
         ensures { result.0 ≡ segment_of self.now.0 }
     {
-        let (segment, _) = self.parts();
-        SegmentId::new(segment)
+        SegmentId::new(self.parts().0)
     }
 
     /// Moves the same offset to another segment.
