@@ -1,18 +1,11 @@
 -- Words of 64 bits in memory, eight bytes each, the lowest first.
-use Rattle.std.specs.Prelude.{◌≡◌, ℕ, ◌+◌, ◌*◌, ◌/◌, ◌≤◌, ◌⊎◌, List, map, length, drop, slice_index}
+use Rattle.std.specs.Prelude.{ℕ, ◌+◌, ◌*◌, ◌/◌, List, map, length, drop, slice_index}
 use Rattle.std.specs.List.{range_with_len}
 
 -- the number that eight bytes make from a place on, the lowest byte first
 abbrev pub little_at : List ℕ → ℕ → ℕ
 little_at bytes place =
     slice_index bytes place + slice_index bytes (place + 1) * 256 + slice_index bytes (place + 2) * 65536 + slice_index bytes (place + 3) * 16777216 + slice_index bytes (place + 4) * 4294967296 + slice_index bytes (place + 5) * 1099511627776 + slice_index bytes (place + 6) * 281474976710656 + slice_index bytes (place + 7) * 72057594037927936
-
--- a number was written to the eight bytes from a place on, and no other byte changed
-pub record Stored (before : List ℕ) (first word : ℕ) (after : List ℕ) : Type 0 where
-  pub here : little_at after first ≡ word
-  pub apart : (place : ℕ) → (place + 8 ≤ first) ⊎ (first + 8 ≤ place) → little_at after place ≡ little_at before place
-  pub behind : (n : ℕ) → first + 8 ≤ n → drop n after ≡ drop n before
-  pub same : length after ≡ length before
 
 -- the words that bytes hold: the k-th stands in the eight bytes from 8 k on
 unfoldable pub words_in : List ℕ → List ℕ

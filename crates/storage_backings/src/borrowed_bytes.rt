@@ -1,3 +1,5 @@
+#![tactic(auto, using(crate::proofs::Bytes::length_words))]
+
 ghost use Rattle.std.specs.Prelude.{◌≡◌, [], ◌∷◌};
 ghost use Rattle.storage_backings.specs.Bytes.{words_in, odd_bytes};
 

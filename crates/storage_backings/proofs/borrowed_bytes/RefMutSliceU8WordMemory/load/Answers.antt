@@ -3,9 +3,6 @@ use Rattle.std.proofs.lemmas.Bool.Decides.{nat_tests}
 use Rattle.storage_backings.proofs.Bytes.{length_words, chunk_word}
 use Rattle.storage_backings.proofs.borrowed_bytes.RefMutSliceU8WordMemory.load.Goals as goal
 
-pub returns-in_err-get : goal.returns-in_err-get
-returns-in_err-get c = let l = length_words c.args.self.now.now in grind (arith, nat_tests)
-
 pub returns : goal.returns
 returns c =
     let bytes = c.args.self.now.now in
