@@ -43,7 +43,7 @@ fn a_code_and_odd_bytes(rt: HostRuntime) {
     assert_eq!(rt; storage.len(), 0);
     assert!(rt; !storage.write(0, 3));
     assert!(rt; storage.set_condition(Stage::Absent));
-    drop(storage);
+    storage.hand_back();
     assert_eq!(rt; bytes, [0, 0, 0, 0, 0, 0, 0, 0, 9, 9, 9, 9, 9, 9, 9]);
 }
 
@@ -62,7 +62,7 @@ fn codes(rt: HostRuntime) {
     assert!(rt; storage.write_code(u64::MAX));
     assert!(rt; !storage.set_condition(Stage::Ready));
     assert!(rt; storage.write(0, 6));
-    drop(storage);
+    storage.hand_back();
     assert_eq!(rt; memory, [u64::MAX, 6]);
 }
 

@@ -1,7 +1,7 @@
-ghost use Rattle.std.specs.Prelude.{◌≡◌, slice_set};
+ghost use Rattle.std.specs.Prelude.{◌≡◌, drop, slice_set};
 ghost use Rattle.dynamic_storage.specs.Meaning.{after_asking};
 ghost use Rattle.dynamic_storage.specs.declared.condition.Stage.TheVariants as stage;
-ghost use Rattle.storage_backings.specs.Bytes.{odd_bytes};
+ghost use Rattle.storage_backings.specs.Bytes.{words_in, odd_bytes};
 
 use dynamic_storage::{DynamicStorage, Stage};
 use script::call::Call;
@@ -32,9 +32,10 @@ pub fn stamp_layers(bytes: BorrowedBytes<'_>, place: u64, count: u64) -> Borrowe
     storage.into_below().into_below()
 }
 
-/// What the lender of the bytes finds: its odd bytes as they were.
+/// What the lender of the bytes finds: the two words behind the code, and its odd bytes as they were.
 pub fn stamp_bytes(memory: &mut [u8])
-    ensures { odd_bytes memory.new ≡ odd_bytes memory.old }
+    ensures words { drop 1 (words_in memory.new) ≡ slice_set (slice_set (slice_set (drop 1 (words_in memory.old)) 0 72623859790382856) 1 255) 18446744073709551615 7 }
+    ensures odd { odd_bytes memory.new ≡ odd_bytes memory.old }
 {
     let mut bytes = BorrowedBytes::new(memory);
     stamp(&mut bytes);
