@@ -95,7 +95,7 @@ fn sent(value: u64, evicted: Option<u64>) -> Answer {
 #[test]
 fn evicted_and_on_loan(rt: HostRuntime) {
     let receive = Call::Receive { channel: 0 };
-    let calls = [send(64), send(128), receive, Call::Receive { channel: 0 }];
+    let calls = [send(64), send(128), receive, receive];
     let answers = answers_to(&rt, rt.alloc(), Port::Sender, &calls);
     let wanted = [
         sent(16384, None),
@@ -106,7 +106,7 @@ fn evicted_and_on_loan(rt: HostRuntime) {
     assert_eq!(rt; answers.as_slice(), wanted.as_slice());
     let lists = lists_after(&rt, rt.alloc(), &calls, answers.as_slice());
     assert!(rt; lists.waiting.is_empty());
-    assert!(rt; lists.on_loan.as_slice() == [32768]);
+    assert!(rt; lists.on_loan.as_slice() == [32768].as_slice());
     assert!(rt; lists.returned.is_empty());
 }
 
@@ -123,7 +123,7 @@ fn returned(rt: HostRuntime) {
     assert_eq!(rt; answers.as_slice(), wanted.as_slice());
     let lists = lists_after(&rt, rt.alloc(), &calls, answers.as_slice());
     assert!(rt; lists.on_loan.is_empty());
-    assert!(rt; lists.returned.as_slice() == [16384]);
+    assert!(rt; lists.returned.as_slice() == [16384].as_slice());
 }
 
 // A pending send that finds room ends with its first step, and its value waits.
@@ -135,7 +135,8 @@ fn sent_by_a_step(rt: HostRuntime) {
     };
     let calls = [begin(64), step];
     let answers = answers_to(&rt, rt.alloc(), Port::Sender, &calls);
-    assert_eq!(rt; answers.as_slice(), [Answer::Begun, sent(16384, None)]);
+    let wanted = [Answer::Begun, sent(16384, None)];
+    assert_eq!(rt; answers.as_slice(), wanted.as_slice());
     let lists = lists_after(&rt, rt.alloc(), &calls, answers.as_slice());
-    assert!(rt; lists.waiting.as_slice() == [16384]);
+    assert!(rt; lists.waiting.as_slice() == [16384].as_slice());
 }
