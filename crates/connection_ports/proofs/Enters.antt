@@ -7,7 +7,7 @@ use Rattle.connection_words.specs.Settings.{too_small, too_large}
 use Rattle.connection_ports.specs.declared.port.Entry.{Entry}
 use Rattle.connection_ports.specs.declared.port.Entry.TheVariants as entry
 use Rattle.connection_ports.specs.declared.port.Port.{Port}
-use Rattle.connection_ports.specs.Creation.{entry_of, join_refusal, joined, unless, creation_refusal, creation_words, creation_condition}
+use Rattle.connection_ports.specs.Creation.{entry_of, join_refusal, joined, unless, creation_refusal, creation_fault, creation_words, creation_condition}
 
 join_ready : (k : Condition) → Ok entry.Join ≡ entry_of k → k ≡ Ready
 join_ready Absent e = cc
@@ -44,3 +44,6 @@ module _ (p : Port) (asked laid found entered : Settings) (k j : Condition) (way
 
   pub entered_condition : k ≡ creation_condition p asked k words
   entered_condition = rw ready (sym (either_ready (creation_refusal p asked Ready words)))
+
+  pub entered_fault : None ≡ creation_fault asked k
+  entered_fault = rw (ready, large)

@@ -1,19 +1,21 @@
 -- When the creation of a port is refused, and what it leaves.
-use Rattle.std.specs.Prelude.{ℕ, zero, suc, ◌+◌, Bool, true, false, cond, not, ◌&&◌, ◌||◌, List, length, Some, None, Ok, Err, Option, Result, ◌==◌, nat_lt, slice_index, slice_set}
+use Rattle.std.specs.Prelude.{◌≡◌, ℕ, zero, suc, ◌+◌, Bool, true, false, cond, not, ◌&&◌, ◌||◌, List, length, Some, None, Ok, Err, Option, Result, ◌==◌, nat_lt, slice_index, slice_set}
+use Rattle.dynamic_storage.specs.declared.DynamicStorage.{Ghosts}
 use Rattle.dynamic_storage.specs.declared.condition.Condition.{Condition}
 use Rattle.dynamic_storage.specs.declared.condition.Condition.TheVariants.{Absent, Forming, Ready, Broken, OtherVersion}
 use Rattle.connection_words.specs.declared.settings.Settings.{Settings}
-use Rattle.connection_words.specs.Settings.{buffer, borrowed, samples, segments, channels, too_large}
+use Rattle.connection_words.specs.Settings.{buffer, borrowed, samples, segments, channels, raised, too_large}
 use Rattle.connection_words.specs.Places.{needed}
 use Rattle.connection_words.specs.Soundness.{sound, settings_of}
 use Rattle.connection_words.specs.Queues.{channel_sound}
 use Rattle.connection_ports.specs.declared.error.DynamicStorageOpenError.{DynamicStorageOpenError}
 use Rattle.connection_ports.specs.declared.error.DynamicStorageOpenError.TheVariants as fault
+use Rattle.connection_ports.specs.declared.error.ZeroCopyCreationError.{ZeroCopyCreationError}
 use Rattle.connection_ports.specs.declared.port.Entry.{Entry}
 use Rattle.connection_ports.specs.declared.port.Entry.TheVariants as entry
 use Rattle.connection_ports.specs.declared.port.Port.{Port}
 use Rattle.connection_ports.specs.declared.port.Port.TheVariants as port
-use Rattle.connection_ports.specs.Numbers.{bit_of}
+use Rattle.connection_ports.specs.Numbers.{creation_number, refused_by, fault_of, bit_of}
 use Rattle.connection_ports.specs.Fresh.{fresh_words}
 
 -- the queues of the first n channels are sound
@@ -110,3 +112,11 @@ creation_words p s state condition words = unless (creation_refusal p s conditio
 
 abbrev pub creation_condition : Port → Settings → Condition → List ℕ → Condition
 creation_condition p s condition words = unless (creation_refusal p s condition words) condition Ready
+
+-- a port was created over a storage, or refused, where these settings and this state of the channels were asked for
+pub record Creates {A S : Type 0} (of : Ghosts S) (p : Port) (s : Settings) (state : ℕ) (before after : S) (result : Result A ZeroCopyCreationError) : Type 0 where
+  pub answer : refused_by creation_number result ≡ creation_refusal p (raised s) (of.condition before) (of.words before)
+  pub fault : fault_of result ≡ creation_fault (raised s) (of.condition before)
+  pub words : of.words after ≡ creation_words p (raised s) state (of.condition before) (of.words before)
+  pub condition : of.condition after ≡ creation_condition p (raised s) (of.condition before) (of.words before)
+  pub outside : of.outside after ≡ of.outside before

@@ -2,10 +2,9 @@ ghost use Rattle.std.specs.Prelude.{◌≡◌, ℕ, ◌+◌, true, false, cond, 
 ghost use Rattle.dynamic_storage.specs.Changes.{WordsBecome};
 ghost use Rattle.dynamic_storage.specs.declared.condition.Condition.TheVariants.{Absent, Ready};
 ghost use Rattle.connection_words.specs.PortStates.{state_word};
-ghost use Rattle.connection_words.specs.Settings.{raised};
 ghost use Rattle.connection_ports.specs.Numbers.{creation_number, refused_by, fault_of, bit_of};
 ghost use Rattle.connection_ports.specs.Fresh.{fresh_words};
-ghost use Rattle.connection_ports.specs.Creation.{entry_of, mismatch, join_refusal, joined, room_refusal, unless, creation_refusal, creation_fault, creation_words, creation_condition};
+ghost use Rattle.connection_ports.specs.Creation.{entry_of, mismatch, join_refusal, joined, room_refusal, unless, Creates};
 ghost use Rattle.connection_ports.specs.declared.port.Port.TheVariants as port;
 
 use crate::fresh::Fresh;
@@ -123,12 +122,8 @@ impl Builder {
         storage: &mut S,
         port: Port,
     ) -> Result<PortToken, ZeroCopyCreationError>
-        ensures answer { refused_by creation_number result ≡ creation_refusal port (raised self.now.settings) (S.DynamicStorage.condition storage.old) (S.DynamicStorage.words storage.old) }
-        ensures fault { fault_of result ≡ creation_fault (raised self.now.settings) (S.DynamicStorage.condition storage.old) }
+        ensures creation { Creates S.DynamicStorage port self.now.settings self.now.initial_channel_state.0 storage.old storage.new result }
         ensures token { IfOk result (λ token. (token.port ≡ port) × (token.spent ≡ false)) }
-        ensures words { S.DynamicStorage.words storage.new ≡ creation_words port (raised self.now.settings) self.now.initial_channel_state.0 (S.DynamicStorage.condition storage.old) (S.DynamicStorage.words storage.old) }
-        ensures condition { S.DynamicStorage.condition storage.new ≡ creation_condition port (raised self.now.settings) (S.DynamicStorage.condition storage.old) (S.DynamicStorage.words storage.old) }
-        ensures outside { S.DynamicStorage.outside storage.new ≡ S.DynamicStorage.outside storage.old }
     {
         let Some(layout) = Layout::new(self.settings.raised()) else {
             return Err(ZeroCopyCreationError::SettingTooLarge);
@@ -151,12 +146,8 @@ impl Builder {
         &self,
         storage: &mut S,
     ) -> Result<PortToken, ZeroCopyCreationError>
-        ensures answer { refused_by creation_number result ≡ creation_refusal port.Sender (raised self.now.settings) (S.DynamicStorage.condition storage.old) (S.DynamicStorage.words storage.old) }
-        ensures fault { fault_of result ≡ creation_fault (raised self.now.settings) (S.DynamicStorage.condition storage.old) }
+        ensures creation { Creates S.DynamicStorage port.Sender self.now.settings self.now.initial_channel_state.0 storage.old storage.new result }
         ensures token { IfOk result (λ token. (token.port ≡ port.Sender) × (token.spent ≡ false)) }
-        ensures words { S.DynamicStorage.words storage.new ≡ creation_words port.Sender (raised self.now.settings) self.now.initial_channel_state.0 (S.DynamicStorage.condition storage.old) (S.DynamicStorage.words storage.old) }
-        ensures condition { S.DynamicStorage.condition storage.new ≡ creation_condition port.Sender (raised self.now.settings) (S.DynamicStorage.condition storage.old) (S.DynamicStorage.words storage.old) }
-        ensures outside { S.DynamicStorage.outside storage.new ≡ S.DynamicStorage.outside storage.old }
     {
         self.create(storage, Port::Sender)
     }
@@ -166,13 +157,9 @@ impl Builder {
         &self,
         storage: &mut S,
     ) -> Result<(PortToken, BorrowCounters), ZeroCopyCreationError>
-        ensures answer { refused_by creation_number result ≡ creation_refusal port.Receiver (raised self.now.settings) (S.DynamicStorage.condition storage.old) (S.DynamicStorage.words storage.old) }
-        ensures fault { fault_of result ≡ creation_fault (raised self.now.settings) (S.DynamicStorage.condition storage.old) }
+        ensures creation { Creates S.DynamicStorage port.Receiver self.now.settings self.now.initial_channel_state.0 storage.old storage.new result }
         ensures token { IfOk result (λ made. (made.0.port ≡ port.Receiver) × (made.0.spent ≡ false)) }
         ensures counters { IfOk result (λ made. made.1.counts ≡ replicate 64 0) }
-        ensures words { S.DynamicStorage.words storage.new ≡ creation_words port.Receiver (raised self.now.settings) self.now.initial_channel_state.0 (S.DynamicStorage.condition storage.old) (S.DynamicStorage.words storage.old) }
-        ensures condition { S.DynamicStorage.condition storage.new ≡ creation_condition port.Receiver (raised self.now.settings) (S.DynamicStorage.condition storage.old) (S.DynamicStorage.words storage.old) }
-        ensures outside { S.DynamicStorage.outside storage.new ≡ S.DynamicStorage.outside storage.old }
     {
         let token = self.create(storage, Port::Receiver)?;
         Ok((token, BorrowCounters::new()))
