@@ -9,5 +9,6 @@ mod lines;
 pub mod parsing;
 mod ports;
 pub mod scripts;
+mod splits;
 mod transfers;
 mod words;

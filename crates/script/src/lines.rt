@@ -1,24 +1,13 @@
-ghost use Rattle.std.specs.Prelude.{◌≡◌, ◌<◌, ◌≤◌, [], ◌∷◌, length, take, drop, MatchOption, slice_index};
-ghost use Rattle.script.specs.Lines.{lines_after, lines_of};
+ghost use Rattle.std.specs.Prelude.{◌≡◌, length, drop};
+ghost use Rattle.std.specs.Iterator.{YieldsFirstBy, at_most};
+ghost use Rattle.script.specs.Lines.{lines_of};
+
+use crate::splits::split_before;
 
 /// The lines of a text that are still to come.
 #[derive(Clone, Copy)]
 pub(crate) struct Lines<'a> {
     rest: &'a [u8],
-}
-
-// How many bytes stand before the end of the first line.
-fn line_len(text: &[u8]) -> usize
-    ensures within { result ≤ length text.now }
-    ensures same { lines_after (take result text.now) (drop result text.now) ≡ lines_of text.now }
-    ensures stops { result < length text.now → slice_index text.now result ≡ 10 }
-{
-    for i in 0..text.len() {
-        if text[i] == b'\n' {
-            return i;
-        }
-    }
-    text.len()
 }
 
 // The text after the byte that ends a line, if there is one.
@@ -38,16 +27,20 @@ impl<'a> Lines<'a> {
     {
         Lines { rest: text }
     }
+}
 
-    /// The next line, which is then passed.
-    pub(crate) fn next(&mut self) -> Option<&'a [u8]>
-        ensures { MatchOption result (lines_of self.old.rest.now ≡ []) (λ l. (lines_of self.old.rest.now ≡ l.now ∷ lines_of self.new.rest.now) × (length self.new.rest.now < length self.old.rest.now)) }
-    {
-        let text = self.rest;
-        if text.is_empty() {
+impl<'a> Iterator for Lines<'a> {
+    type Item = &'a [u8];
+
+    ghost next_gives = { YieldsFirstBy (λ l. l.now) (λ s. lines_of s.rest.now) };
+
+    ghost remaining = { λ s. at_most (length s.rest.now) };
+
+    fn next(&mut self) -> Option<&'a [u8]> {
+        if self.rest.is_empty() {
             return None;
         }
-        let (line, after) = text.split_at(line_len(text));
+        let (line, after) = split_before(self.rest, |byte| byte == b'\n');
         self.rest = past_end(after);
         Some(line)
     }

@@ -141,11 +141,8 @@ pub fn parse_script(heap: Global, text: &[u8]) -> Result<Script, ScriptError>
         pile: None,
         calls: Vec::new(heap),
     };
-    let mut lines = Lines::of(text);
-    let mut number = 0;
-    while let Some(line) = lines.next() {
-        number += 1;
-        reading.take_line(number, line)?;
+    for (index, line) in Lines::of(text).enumerate() {
+        reading.take_line(index as u64 + 1, line)?;
     }
     Ok(reading.whole())
 }

@@ -1,6 +1,9 @@
-ghost use Rattle.std.specs.Prelude.{◌≡◌, ◌<◌, ◌≤◌, true, false, ◌||◌, [], ◌∷◌, length, take, drop, MatchOption, ◌==◌, slice_index};
+ghost use Rattle.std.specs.Prelude.{◌≡◌, ◌||◌, ◌==◌, length};
+ghost use Rattle.std.specs.Iterator.{YieldsFirstBy, at_most};
 ghost use Rattle.std.specs.Str.{bytes_eq};
-ghost use Rattle.script.specs.Tokens.{blank, words_after, tokens};
+ghost use Rattle.script.specs.Tokens.{blank, tokens};
+
+use crate::splits::split_before;
 
 /// The words of a line that are still to come.
 #[derive(Clone, Copy)]
@@ -27,34 +30,6 @@ pub(crate) fn is(word: &[u8], name: &str) -> bool
     word == name.as_bytes()
 }
 
-// How many blanks stand at the front.
-fn blanks_len(line: &[u8]) -> usize
-    ensures within { result ≤ length line.now }
-    ensures same { tokens (drop result line.now) ≡ tokens line.now }
-    ensures stops { result < length line.now → blank (slice_index line.now result) ≡ false }
-{
-    for i in 0..line.len() {
-        if !is_blank(line[i]) {
-            return i;
-        }
-    }
-    line.len()
-}
-
-// How many bytes of a word stand at the front.
-fn word_len(line: &[u8]) -> usize
-    ensures within { result ≤ length line.now }
-    ensures same { words_after (take result line.now) (drop result line.now) ≡ tokens line.now }
-    ensures stops { result < length line.now → (slice_index line.now result == 35 || blank (slice_index line.now result)) ≡ true }
-{
-    for i in 0..line.len() {
-        if ends_word(line[i]) {
-            return i;
-        }
-    }
-    line.len()
-}
-
 impl<'a> Words<'a> {
     /// The words of a line.
     pub(crate) fn of(line: &'a [u8]) -> Words<'a>
@@ -62,14 +37,18 @@ impl<'a> Words<'a> {
     {
         Words { rest: line }
     }
+}
 
-    /// The next word, which is then passed.
-    pub(crate) fn next(&mut self) -> Option<&'a [u8]>
-        ensures { MatchOption result (tokens self.old.rest.now ≡ []) (λ w. tokens self.old.rest.now ≡ w.now ∷ tokens self.new.rest.now) }
-    {
-        let line = self.rest;
-        let (_, start) = line.split_at(blanks_len(line));
-        let (word, rest) = start.split_at(word_len(start));
+impl<'a> Iterator for Words<'a> {
+    type Item = &'a [u8];
+
+    ghost next_gives = { YieldsFirstBy (λ w. w.now) (λ s. tokens s.rest.now) };
+
+    ghost remaining = { λ s. at_most (length s.rest.now) };
+
+    fn next(&mut self) -> Option<&'a [u8]> {
+        let (_, start) = split_before(self.rest, |byte| !is_blank(byte));
+        let (word, rest) = split_before(start, ends_word);
         self.rest = rest;
         if word.is_empty() { None } else { Some(word) }
     }
