@@ -1,3 +1,4 @@
 pub mod Cuts
 pub mod Groups
+pub mod Names
 pub mod Steps

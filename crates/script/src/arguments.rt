@@ -1,58 +1,108 @@
-ghost use Rattle.std.specs.Prelude.{◌≡◌};
-ghost use Rattle.script.specs.Grammar.{number, segment, word, stage_of, alone};
+ghost use Rattle.std.specs.Prelude.{◌≡◌, ℕ, List, Result};
+ghost use Rattle.script.specs.declared.call.Expected.{Expected};
+ghost use Rattle.script.specs.declared.call.Call.{Call};
+ghost use Rattle.script.specs.Grammar.{word, from_option, segment_in, stage_of, alone};
+ghost use Rattle.script.specs.Numbers.{number_of};
 ghost use Rattle.script.specs.Cursor.{ahead, Reads};
+ghost use Rattle.script.specs.Calls.{Makes1, Makes2, one_by, two_by};
 
 use crate::call::{Call, Expected};
 use crate::digits;
-use crate::words::{Words, is};
+use crate::words::Words;
 use dynamic_storage::Stage;
 
-/// The next word as a number.
-pub(crate) fn next_number(words: &mut Words<'_>) -> Result<u64, Expected>
-    ensures { Reads number words.old words.new result }
+/// What one word of a line can say.
+pub(crate) trait Argument: Copy {
+    /// What was expected where no word is left.
+    const EXPECTED: Expected;
+
+    ghost EXPECTED: { Expected };
+
+    ghost parsed: { List ℕ → Result Self Expected };
+
+    /// What a word says.
+    fn parse(word: &[u8]) -> Result<Self, Expected>
+        ensures { result ≡ parsed word.now };
+}
+
+impl Argument for u64 {
+    const EXPECTED: Expected = Expected::Number;
+
+    ghost EXPECTED = { Expected.Number };
+
+    ghost parsed = { λ w. from_option Expected.Number (number_of w) };
+
+    fn parse(word: &[u8]) -> Result<u64, Expected> {
+        digits::number(word).ok_or(Expected::Number)
+    }
+}
+
+// The number of a segment.
+impl Argument for u8 {
+    const EXPECTED: Expected = Expected::Segment;
+
+    ghost EXPECTED = { Expected.Segment };
+
+    ghost parsed = { λ w. segment_in (number_of w) };
+
+    fn parse(word: &[u8]) -> Result<u8, Expected> {
+        match digits::number(word) {
+            Some(n) if n < 256 => Ok(n as u8),
+            _ => Err(Expected::Segment),
+        }
+    }
+}
+
+impl Argument for Stage {
+    const EXPECTED: Expected = Expected::Stage;
+
+    ghost EXPECTED = { Expected.Stage };
+
+    ghost parsed = { stage_of };
+
+    fn parse(word: &[u8]) -> Result<Stage, Expected> {
+        match word {
+            b"absent" => Ok(Stage::Absent),
+            b"forming" => Ok(Stage::Forming),
+            b"ready" => Ok(Stage::Ready),
+            _ => Err(Expected::Stage),
+        }
+    }
+}
+
+/// The next word, by what it says.
+pub(crate) fn next_argument<T: Argument>(words: &mut Words<'_>) -> Result<T, Expected>
+    ensures { Reads (word T.EXPECTED T.parsed) words.old words.new result }
 {
     match words.next() {
-        Some(word) => digits::number(word).ok_or(Expected::Number),
-        None => Err(Expected::Number),
+        Some(word) => T::parse(word),
+        None => Err(T::EXPECTED),
     }
 }
 
-/// The next word as the number of a segment.
-pub(crate) fn next_segment(words: &mut Words<'_>) -> Result<u8, Expected>
-    ensures { Reads segment words.old words.new result }
+/// The call of one word more, where the line ends after it.
+pub(crate) fn one<T: Argument, F: FnOnce(T) -> Call>(
+    words: &mut Words<'_>,
+    make: F,
+) -> Result<Call, Expected>
+    requires { F.IsAlwaysCallable make }
+    ensures { (f : T → Call) → Makes1 (F.post make) f → result ≡ one_by (word T.EXPECTED T.parsed) f (ahead words.old) }
 {
-    let Some(word) = words.next() else {
-        return Err(Expected::Segment);
-    };
-    match digits::number(word) {
-        Some(n) if n < 256 => Ok(n as u8),
-        _ => Err(Expected::Segment),
-    }
+    let first = next_argument(words)?;
+    alone(words, make(first))
 }
 
-// The stage that a word names.
-fn stage(word: &[u8]) -> Result<Stage, Expected>
-    ensures { result ≡ stage_of word.now }
+/// The call of two words more, where the line ends after them.
+pub(crate) fn two<T: Argument, U: Argument, F: FnOnce(T, U) -> Call>(
+    words: &mut Words<'_>,
+    make: F,
+) -> Result<Call, Expected>
+    requires { F.IsAlwaysCallable make }
+    ensures { (f : T → U → Call) → Makes2 (F.post make) f → result ≡ two_by (word T.EXPECTED T.parsed) (word U.EXPECTED U.parsed) f (ahead words.old) }
 {
-    if is(word, "absent") {
-        Ok(Stage::Absent)
-    } else if is(word, "forming") {
-        Ok(Stage::Forming)
-    } else if is(word, "ready") {
-        Ok(Stage::Ready)
-    } else {
-        Err(Expected::Stage)
-    }
-}
-
-/// The next word as a stage.
-pub(crate) fn next_stage(words: &mut Words<'_>) -> Result<Stage, Expected>
-    ensures { Reads (word (Expected.Stage) stage_of) words.old words.new result }
-{
-    match words.next() {
-        Some(word) => stage(word),
-        None => Err(Expected::Stage),
-    }
+    let first = next_argument(words)?;
+    let second = next_argument(words)?;
+    alone(words, make(first, second))
 }
 
 /// The call, where the line ends here.

@@ -2,7 +2,7 @@ ghost use Rattle.std.specs.Prelude.{◌≡◌};
 ghost use Rattle.script.specs.Grammar.{backing, window, swapped, last_layer, pile};
 ghost use Rattle.script.specs.Cursor.{ahead, Reads};
 
-use crate::arguments::next_number;
+use crate::arguments::next_argument;
 use crate::call::{Backing, Expected, Frame, Pile};
 use crate::words::{Words, is};
 
@@ -10,19 +10,12 @@ use crate::words::{Words, is};
 fn next_backing(words: &mut Words<'_>) -> Result<Backing, Expected>
     ensures { Reads backing words.old words.new result }
 {
-    let Some(word) = words.next() else {
-        return Err(Expected::Backing);
-    };
-    if is(word, "words") {
-        return Ok(Backing::Words(next_number(words)?));
+    match words.next() {
+        Some(b"words") => Ok(Backing::Words(next_argument(words)?)),
+        Some(b"bytes") => Ok(Backing::Bytes(next_argument(words)?)),
+        Some(b"inner") => Ok(Backing::Inner),
+        _ => Err(Expected::Backing),
     }
-    if is(word, "bytes") {
-        return Ok(Backing::Bytes(next_number(words)?));
-    }
-    if is(word, "inner") {
-        return Ok(Backing::Inner);
-    }
-    Err(Expected::Backing)
 }
 
 // The window that the next words name, if they do.
@@ -36,8 +29,8 @@ fn next_window(words: &mut Words<'_>) -> Result<Option<Frame>, Expected>
     if !is(word, "window") {
         return Ok(None);
     }
-    let place = next_number(&mut after)?;
-    let count = next_number(&mut after)?;
+    let place = next_argument(&mut after)?;
+    let count = next_argument(&mut after)?;
     *words = after;
     Ok(Some(Frame { place, count }))
 }

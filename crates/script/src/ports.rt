@@ -1,71 +1,63 @@
 ghost use Rattle.std.specs.Prelude.{◌≡◌};
-ghost use Rattle.script.specs.Grammar.{word, port_of, state_of, overflow, settings};
+ghost use Rattle.script.specs.declared.call.Expected.{Expected};
+ghost use Rattle.script.specs.Numbers.{number_of};
+ghost use Rattle.script.specs.Grammar.{port_of, state_of, overflow_in, settings};
 ghost use Rattle.script.specs.Cursor.{Reads};
 
-use crate::arguments::next_number;
+use crate::arguments::{Argument, next_argument};
 use crate::call::{Expected, StateWord};
 use crate::digits;
-use crate::words::{Words, is};
+use crate::words::Words;
 use connection_ports::Port;
 use connection_words::Settings;
 
-// The port that a word names.
-fn port(word: &[u8]) -> Result<Port, Expected>
-    ensures { result ≡ port_of word.now }
-{
-    if is(word, "sender") {
-        Ok(Port::Sender)
-    } else if is(word, "receiver") {
-        Ok(Port::Receiver)
-    } else {
-        Err(Expected::Port)
+impl Argument for Port {
+    const EXPECTED: Expected = Expected::Port;
+
+    ghost EXPECTED = { Expected.Port };
+
+    ghost parsed = { port_of };
+
+    fn parse(word: &[u8]) -> Result<Port, Expected> {
+        match word {
+            b"sender" => Ok(Port::Sender),
+            b"receiver" => Ok(Port::Receiver),
+            _ => Err(Expected::Port),
+        }
     }
 }
 
-/// The next word as a port.
-pub(crate) fn next_port(words: &mut Words<'_>) -> Result<Port, Expected>
-    ensures { Reads (word (Expected.Port) port_of) words.old words.new result }
-{
-    match words.next() {
-        Some(word) => port(word),
-        None => Err(Expected::Port),
+impl Argument for StateWord {
+    const EXPECTED: Expected = Expected::State;
+
+    ghost EXPECTED = { Expected.State };
+
+    ghost parsed = { state_of };
+
+    fn parse(word: &[u8]) -> Result<StateWord, Expected> {
+        match word {
+            b"closed" => Ok(StateWord::Closed),
+            _ => digits::number(word)
+                .map(StateWord::Number)
+                .ok_or(Expected::State),
+        }
     }
 }
 
-// The state that a word writes.
-fn state(word: &[u8]) -> Result<StateWord, Expected>
-    ensures { result ≡ state_of word.now }
-{
-    if is(word, "closed") {
-        return Ok(StateWord::Closed);
-    }
-    match digits::number(word) {
-        Some(n) => Ok(StateWord::Number(n)),
-        None => Err(Expected::State),
-    }
-}
+// Whether a full queue gives way.
+impl Argument for bool {
+    const EXPECTED: Expected = Expected::Overflow;
 
-/// The next word as a state.
-pub(crate) fn next_state(words: &mut Words<'_>) -> Result<StateWord, Expected>
-    ensures { Reads (word (Expected.State) state_of) words.old words.new result }
-{
-    match words.next() {
-        Some(word) => state(word),
-        None => Err(Expected::State),
-    }
-}
+    ghost EXPECTED = { Expected.Overflow };
 
-// The next word as 0 or 1: whether a full queue gives way.
-fn next_overflow(words: &mut Words<'_>) -> Result<bool, Expected>
-    ensures { Reads overflow words.old words.new result }
-{
-    let Some(word) = words.next() else {
-        return Err(Expected::Overflow);
-    };
-    match digits::number(word) {
-        Some(0) => Ok(false),
-        Some(1) => Ok(true),
-        _ => Err(Expected::Overflow),
+    ghost parsed = { λ w. overflow_in (number_of w) };
+
+    fn parse(word: &[u8]) -> Result<bool, Expected> {
+        match digits::number(word) {
+            Some(0) => Ok(false),
+            Some(1) => Ok(true),
+            _ => Err(Expected::Overflow),
+        }
     }
 }
 
@@ -73,18 +65,12 @@ fn next_overflow(words: &mut Words<'_>) -> Result<bool, Expected>
 pub(crate) fn next_settings(words: &mut Words<'_>) -> Result<Settings, Expected>
     ensures { Reads settings words.old words.new result }
 {
-    let buffer_size = next_number(words)?;
-    let max_borrowed_samples_per_channel = next_number(words)?;
-    let number_of_samples_per_segment = next_number(words)?;
-    let number_of_segments = next_number(words)?;
-    let number_of_channels = next_number(words)?;
-    let enable_safe_overflow = next_overflow(words)?;
     Ok(Settings {
-        buffer_size,
-        max_borrowed_samples_per_channel,
-        number_of_samples_per_segment,
-        number_of_segments,
-        number_of_channels,
-        enable_safe_overflow,
+        buffer_size: next_argument(words)?,
+        max_borrowed_samples_per_channel: next_argument(words)?,
+        number_of_samples_per_segment: next_argument(words)?,
+        number_of_segments: next_argument(words)?,
+        number_of_channels: next_argument(words)?,
+        enable_safe_overflow: next_argument(words)?,
     })
 }
