@@ -1,4 +1,4 @@
-use Rattle.std.specs.Prelude.{◌≡◌, ℕ, List}
+use Rattle.std.specs.Prelude.{◌≡◌}
 use Rattle.script.specs.declared.call.Call.{Call}
 use Rattle.script.specs.Grammar.{Reader, Rest, then, alone}
 

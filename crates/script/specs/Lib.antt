@@ -6,3 +6,4 @@ pub mod Calls
 pub mod Lines
 pub mod Scripts
 pub mod Progress
+pub mod Texts

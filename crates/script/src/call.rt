@@ -3,7 +3,7 @@ use connection_words::Settings;
 use dynamic_storage::Stage;
 
 /// What holds the words of a storage.
-#[derive(Clone, Copy)]
+#[derive(Clone, Copy, Debug, PartialEq, Eq)]
 pub enum Backing {
     Words(u64),
     Bytes(u64),
@@ -11,14 +11,14 @@ pub enum Backing {
 }
 
 /// A window over the storage below it.
-#[derive(Clone, Copy)]
+#[derive(Clone, Copy, Debug, PartialEq, Eq)]
 pub struct Frame {
     pub place: u64,
     pub count: u64,
 }
 
 /// A backing with the layers over it, the lowest first.
-#[derive(Clone, Copy)]
+#[derive(Clone, Copy, Debug, PartialEq, Eq)]
 pub struct Pile {
     pub backing: Backing,
     pub lower: Option<Frame>,
@@ -27,13 +27,14 @@ pub struct Pile {
 }
 
 /// The word of a state, as a line writes it.
-#[derive(Clone, Copy)]
+#[derive(Clone, Copy, Debug, PartialEq, Eq)]
 pub enum StateWord {
     Number(u64),
     Closed,
 }
 
 /// A call that a line asks for.
+// No Debug and no ==, since Port has neither.
 #[derive(Clone, Copy)]
 pub enum Call {
     Condition,
@@ -71,7 +72,7 @@ pub enum Line {
 }
 
 /// What was expected where a line was not understood.
-#[derive(Clone, Copy)]
+#[derive(Clone, Copy, Debug, PartialEq, Eq)]
 pub enum Expected {
     Keyword,
     Number,

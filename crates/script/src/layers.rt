@@ -4,7 +4,7 @@ ghost use Rattle.script.specs.Cursor.{ahead, Reads};
 
 use crate::arguments::next_argument;
 use crate::call::{Backing, Expected, Frame, Pile};
-use crate::words::{Words, is};
+use crate::words::Words;
 
 // The backing that the next words name.
 fn next_backing(words: &mut Words<'_>) -> Result<Backing, Expected>
@@ -23,12 +23,9 @@ fn next_window(words: &mut Words<'_>) -> Result<Option<Frame>, Expected>
     ensures { Reads window words.old words.new result }
 {
     let mut after = *words;
-    let Some(word) = after.next() else {
+    let Some(b"window") = after.next() else {
         return Ok(None);
     };
-    if !is(word, "window") {
-        return Ok(None);
-    }
     let place = next_argument(&mut after)?;
     let count = next_argument(&mut after)?;
     *words = after;
@@ -40,14 +37,11 @@ fn next_swapped(words: &mut Words<'_>) -> bool
     ensures { swapped (ahead words.old) ≡ (result, ahead words.new) }
 {
     let mut after = *words;
-    let Some(word) = after.next() else {
+    let Some(b"swapped") = after.next() else {
         return false;
     };
-    if is(word, "swapped") {
-        *words = after;
-        return true;
-    }
-    false
+    *words = after;
+    true
 }
 
 // The pile, where no more layers follow.

@@ -3,6 +3,7 @@
 mod arguments;
 pub mod call;
 mod digits;
+mod errors;
 mod keywords;
 mod layers;
 mod lines;

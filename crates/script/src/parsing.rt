@@ -5,18 +5,16 @@ ghost use Rattle.script.specs.Grammar.{parsed_line};
 use crate::call::{Expected, Line};
 use crate::keywords::call;
 use crate::layers::pile;
-use crate::words::{Words, is};
+use crate::words::Words;
 
 /// What a line says.
 pub fn parse_line(line: &[u8]) -> Result<Line, Expected>
     ensures { result ≡ parsed_line (tokens line.now) }
 {
     let mut words = Words::of(line);
-    let Some(keyword) = words.next() else {
-        return Ok(Line::Blank);
-    };
-    if is(keyword, "storage") {
-        return Ok(Line::Storage(pile(&mut words)?));
+    match words.next() {
+        None => Ok(Line::Blank),
+        Some(b"storage") => Ok(Line::Storage(pile(&mut words)?)),
+        Some(keyword) => Ok(Line::Call(call(keyword, &mut words)?)),
     }
-    Ok(Line::Call(call(keyword, &mut words)?))
 }

@@ -7,7 +7,7 @@ ghost use Rattle.script.specs.Progress.{sofar, Took, Parsed};
 use crate::call::{Backing, Call, Expected, Line, Pile};
 use crate::lines::Lines;
 use crate::parsing::parse_line;
-use crate::words::{Words, is};
+use crate::words::Words;
 use std::alloc::Global;
 
 /// What a text asks for.
@@ -18,7 +18,7 @@ pub struct Script {
 }
 
 /// Why a text gives no script.
-#[derive(Clone, Copy)]
+#[derive(Clone, Copy, Debug, PartialEq, Eq)]
 pub enum ScriptError {
     NotUnderstood { line: u64, expected: Expected },
     OutOfMemory,
@@ -31,37 +31,31 @@ struct Reading {
     calls: Vec<Call>,
 }
 
-// The storage of a script that does not describe one.
-fn usual_pile() -> Pile
-    ensures { result ≡ usual }
-{
-    Pile {
-        backing: Backing::Words(4097),
-        lower: None,
-        swapped: false,
-        upper: None,
+/// The storage of a script that does not describe one.
+impl Default for Pile {
+    ghost is_default = { λ pile. pile ≡ usual };
+
+    fn default() -> Pile {
+        Pile {
+            backing: Backing::Words(4097),
+            lower: None,
+            swapped: false,
+            upper: None,
+        }
     }
 }
 
 fn is_inner(backing: Backing) -> bool
     ensures { result ≡ is_inner backing }
 {
-    match backing {
-        Backing::Words(_) => false,
-        Backing::Bytes(_) => false,
-        Backing::Inner => true,
-    }
+    matches!(backing, Backing::Inner)
 }
 
 // Whether a line begins with `code`.
 fn is_code(line: &[u8]) -> bool
     ensures { result ≡ is_code (tokens line.now) }
 {
-    let mut words = Words::of(line);
-    match words.next() {
-        Some(word) => is(word, "code"),
-        None => false,
-    }
+    matches!(Words::of(line).next(), Some(b"code"))
 }
 
 // What a line says over a storage: an inner one has no code to write.
@@ -79,7 +73,7 @@ impl Reading {
     fn pile(&self) -> Pile
         ensures { result ≡ unwrap_or self.now.pile usual }
     {
-        self.pile.unwrap_or(usual_pile())
+        self.pile.unwrap_or_default()
     }
 
     // A storage line, which stands before all calls.
@@ -101,10 +95,8 @@ impl Reading {
         ensures { MatchResult result (λ _. with_call (sofar self.old) call ≡ Ok (sofar self.new)) (λ e. e ≡ ScriptError.OutOfMemory) }
     {
         self.pile = Some(self.pile());
-        match self.calls.push(call) {
-            Ok(()) => Ok(()),
-            Err(_) => Err(ScriptError::OutOfMemory),
-        }
+        self.calls.push(call)?;
+        Ok(())
     }
 
     // One line more.

@@ -12,12 +12,15 @@ fn send_call(words: &mut Words<'_>) -> Result<Call, Expected>
 {
     let offset = next_argument(words)?;
     let segment = next_argument(words)?;
-    two(words, |size, channel| Call::Send {
-        offset,
-        segment,
-        size,
-        channel,
-    })
+    two(
+        words,
+        |size, channel| Call::Send {
+            offset,
+            segment,
+            size,
+            channel,
+        },
+    )
 }
 
 // The rest of a line that gives a value back.

@@ -1,6 +1,5 @@
 ghost use Rattle.std.specs.Prelude.{◌≡◌, ◌||◌, ◌==◌, length};
 ghost use Rattle.std.specs.Iterator.{YieldsFirstBy, at_most};
-ghost use Rattle.std.specs.Str.{bytes_eq};
 ghost use Rattle.script.specs.Tokens.{blank, tokens};
 
 use crate::splits::split_before;
@@ -21,13 +20,6 @@ fn ends_word(byte: u8) -> bool
     ensures { result ≡ (byte == 35 || blank byte) }
 {
     byte == b'#' || is_blank(byte)
-}
-
-/// Whether a word is a name.
-pub(crate) fn is(word: &[u8], name: &str) -> bool
-    ensures { result ≡ bytes_eq word.now name.now }
-{
-    word == name.as_bytes()
 }
 
 impl<'a> Words<'a> {
