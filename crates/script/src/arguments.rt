@@ -46,10 +46,9 @@ impl Argument for u8 {
     ghost parsed = { λ w. segment_in (number_of w) };
 
     fn parse(word: &[u8]) -> Result<u8, Expected> {
-        match digits::number(word) {
-            Some(n) if n < 256 => Ok(n as u8),
-            _ => Err(Expected::Segment),
-        }
+        digits::number(word)
+            .and_then(|n| u8::try_from(n).ok())
+            .ok_or(Expected::Segment)
     }
 }
 

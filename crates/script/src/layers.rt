@@ -11,8 +11,8 @@ fn next_backing(words: &mut Words<'_>) -> Result<Backing, Expected>
     ensures { Reads backing words.old words.new result }
 {
     match words.next() {
-        Some(b"words") => Ok(Backing::Words(next_argument(words)?)),
-        Some(b"bytes") => Ok(Backing::Bytes(next_argument(words)?)),
+        Some(b"words") => next_argument(words).map(Backing::Words),
+        Some(b"bytes") => next_argument(words).map(Backing::Bytes),
         Some(b"inner") => Ok(Backing::Inner),
         _ => Err(Expected::Backing),
     }

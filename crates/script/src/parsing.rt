@@ -14,7 +14,7 @@ pub fn parse_line(line: &[u8]) -> Result<Line, Expected>
     let mut words = Words::of(line);
     match words.next() {
         None => Ok(Line::Blank),
-        Some(b"storage") => Ok(Line::Storage(pile(&mut words)?)),
-        Some(keyword) => Ok(Line::Call(call(keyword, &mut words)?)),
+        Some(b"storage") => pile(&mut words).map(Line::Storage),
+        Some(keyword) => call(keyword, &mut words).map(Line::Call),
     }
 }

@@ -103,14 +103,14 @@ impl Reading {
     fn take_line(&mut self, number: u64, line: &[u8]) -> Result<(), ScriptError>
         ensures { Took (after_line (sofar self.old) line.now) number self.new result }
     {
-        match line_on(self.pile().backing, line) {
-            Ok(Line::Blank) => Ok(()),
-            Ok(Line::Storage(pile)) => self.take_pile(number, pile),
-            Ok(Line::Call(call)) => self.take_call(call),
-            Err(expected) => Err(ScriptError::NotUnderstood {
-                line: number,
-                expected,
-            }),
+        let not_understood = |expected| ScriptError::NotUnderstood {
+            line: number,
+            expected,
+        };
+        match line_on(self.pile().backing, line).map_err(not_understood)? {
+            Line::Blank => Ok(()),
+            Line::Storage(pile) => self.take_pile(number, pile),
+            Line::Call(call) => self.take_call(call),
         }
     }
 

@@ -13,7 +13,7 @@ pub(crate) struct Words<'a> {
 fn is_blank(byte: u8) -> bool
     ensures { result ≡ blank byte }
 {
-    byte == b' ' || byte == b'\t' || byte == b'\r'
+    matches!(byte, b' ' | b'\t' | b'\r')
 }
 
 fn ends_word(byte: u8) -> bool
