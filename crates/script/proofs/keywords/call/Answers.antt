@@ -10,6 +10,14 @@ pub returns-in-length : goal.returns-in-length
 returns-in-length c =
     rw (text_from_reads c.args.keyword.now (codes "length") (omega arith) (search rules)) c.alone-in-length.ensures
 
+pub returns-in-words : goal.returns-in-words
+returns-in-words c =
+    rw (text_from_reads c.args.keyword.now (codes "words") (omega arith) (search rules)) c.alone.ensures
+
+pub returns-in-read : goal.returns-in-read
+returns-in-read c =
+    rw (text_from_reads c.args.keyword.now (codes "read") (omega arith) (search rules)) (c.one.ensures calls.Read (λ a r h. search rules))
+
 pub returns-in-write : goal.returns-in-write
 returns-in-write c =
     rw (text_from_reads c.args.keyword.now (codes "write") (omega arith) (search rules)) (c.two.ensures calls.Write (λ a b r h. search rules))

@@ -14,6 +14,10 @@ pub returns-in-115 : goal.returns-in-115
 returns-in-115 c =
     rw (text_from_reads c.args.keyword.now (codes "set_condition") (omega arith) (search rules)) (c.one-in-115.ensures calls.SetCondition (λ a r h. search rules))
 
+pub returns-in-code : goal.returns-in-code
+returns-in-code c =
+    rw (text_from_reads c.args.keyword.now (codes "code") (omega arith) (search rules)) (c.one.ensures calls.Code (λ a r h. search rules))
+
 pub returns-in_default : goal.returns-in_default
 returns-in_default c =
     let k = c.args.keyword.now in

@@ -7,3 +7,6 @@ returns-in-absent c = rw (text_from_reads c.args.word.now (codes "absent") (omeg
 
 pub returns-in-forming : goal.returns-in-forming
 returns-in-forming c = rw (text_from_reads c.args.word.now (codes "forming") (omega arith) (search rules))
+
+pub returns-in-ready : goal.returns-in-ready
+returns-in-ready c = rw (text_from_reads c.args.word.now (codes "ready") (omega arith) (search rules))
