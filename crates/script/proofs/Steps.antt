@@ -31,6 +31,3 @@ digit_more n bs i r l e =
 pub number_of_some : (bs : List ℕ) → (length bs ≡ 0 → ⊥) → number_of bs ≡ number_from 0 bs
 number_of_some [] h = absurd (h refl)
 number_of_some (b ∷ bs) h = refl
-
-pub fitting_small : (n : ℕ) → n < 2 ^ 64 → Some n ≡ fitting n
-fitting_small n h = grind (arith, nat_tests)

@@ -64,6 +64,7 @@ pub enum Call {
 }
 
 /// What a line says.
+// No Debug and no ==, since Call has neither.
 #[derive(Clone, Copy)]
 pub enum Line {
     Blank,

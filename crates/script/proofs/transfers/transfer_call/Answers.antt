@@ -1,4 +1,4 @@
-use Rattle.std.proofs.Common.{rules, codes, arith, false, ◌≡◌, ◌∙◌}
+use Rattle.std.proofs.Common.{rules, codes, arith}
 use Rattle.std.proofs.lemmas.Slice.Eq.{text_from_reads}
 use Rattle.script.specs.declared.call.Call.TheVariants as calls
 use Rattle.script.proofs.transfers.transfer_call.Goals as goal
