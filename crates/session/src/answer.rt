@@ -1,3 +1,4 @@
+use crate::Refusal;
 use dynamic_storage::Condition;
 use std::fmt;
 
@@ -20,8 +21,8 @@ pub enum Answer {
     Evicted(u64),
     /// The port state that a close leaves.
     State(u64),
-    /// A refusal by its number.
-    Refused(u64),
+    /// The call was refused.
+    Refused(Refusal),
     /// The script holds no such port.
     NoPort,
     /// The borrow counters, which whoever prints the answer reads off the session.
@@ -42,7 +43,7 @@ impl fmt::Display for Answer {
             Answer::Ok => write!(f, "ok"),
             Answer::Evicted(value) => write!(f, "evicted {value}"),
             Answer::State(state) => write!(f, "state {state}"),
-            Answer::Refused(number) => write!(f, "refused {number} {}", answers::name(*number)),
+            Answer::Refused(refusal) => write!(f, "refused {refusal}"),
             Answer::NoPort => write!(f, "noport"),
         }
     }

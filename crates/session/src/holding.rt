@@ -1,7 +1,7 @@
 ghost use Rattle.std.specs.Prelude.{◌≡◌};
 
-use crate::Answer;
 use crate::performing::{perform_on, yes_or_no};
+use crate::{Answer, Refusal};
 use connection_ports::{
     BorrowCounters, ChannelState, Port, PortToken, close, create_receiver, create_sender,
 };
@@ -22,28 +22,20 @@ pub struct Session {
 }
 
 /// Spends a token over a storage that has no connection, where a close changes nothing.
-fn retire(token: PortToken) {
-    let mut nowhere = ProcessLocal::new();
-    let _ = close(&mut nowhere, token);
-}
-
-/// Keeps a token. A token that was there already is spent.
-fn hold(slot: &mut Option<PortToken>, token: PortToken) {
-    if let Some(old) = slot.replace(token) {
-        retire(old);
+fn retire(held: Option<PortToken>) {
+    if let Some(token) = held {
+        let mut nowhere = ProcessLocal::new();
+        let _ = close(&mut nowhere, token);
     }
 }
 
 fn value_or_none(value: Option<u64>) -> Answer {
-    match value {
-        Some(value) => Answer::Value(value),
-        None => Answer::None,
-    }
+    value.map_or(Answer::None, Answer::Value)
 }
 
-impl Session {
+impl Default for Session {
     /// The settings are those of the Rust's builder.
-    pub fn new() -> Session {
+    fn default() -> Session {
         Session {
             settings: Settings {
                 buffer_size: 4,
@@ -59,33 +51,53 @@ impl Session {
             counters: BorrowCounters::new(),
         }
     }
+}
+
+impl Session {
+    /// The default session, which holds no port.
+    pub fn new() -> Session {
+        Session::default()
+    }
 
     /// Performs one call of a script.
     pub fn perform<S: DynamicStorage>(&mut self, storage: &mut S, call: Call) -> Answer
+        ensures { S.DynamicStorage.outside storage.new ≡ S.DynamicStorage.outside storage.old }
+    {
+        self.try_perform(storage, call)
+            .unwrap_or_else(Answer::Refused)
+    }
+
+    fn try_perform<S: DynamicStorage>(
+        &mut self,
+        storage: &mut S,
+        call: Call,
+    ) -> Result<Answer, Refusal>
         ensures { S.DynamicStorage.outside storage.new ≡ S.DynamicStorage.outside storage.old }
     {
         match call {
             Call::Settings(settings, state) => self.set(settings, state),
             Call::Create(port) => self.create(storage, port),
             Call::Close(port) => self.close_port(storage, port),
-            Call::Counters => match self.receiver {
-                Some(_) => Answer::Counters,
-                None => Answer::NoPort,
-            },
+            Call::Counters if self.receiver.is_none() => Ok(Answer::NoPort),
+            Call::Counters => Ok(Answer::Counters),
             Call::Send { .. } | Call::Reclaim(_) => self.send_or_reclaim(storage, call),
             Call::Receive(_) | Call::Release(_, _, _) | Call::HasData(_) | Call::BorrowCount(_) => {
                 self.receive_or_release(storage, call)
             }
-            _ => perform_on(storage, call),
+            _ => Ok(perform_on(storage, call)),
         }
     }
 
     /// The calls of a sender.
-    fn send_or_reclaim<S: DynamicStorage>(&mut self, storage: &mut S, call: Call) -> Answer
+    fn send_or_reclaim<S: DynamicStorage>(
+        &mut self,
+        storage: &mut S,
+        call: Call,
+    ) -> Result<Answer, Refusal>
         ensures { S.DynamicStorage.outside storage.new ≡ S.DynamicStorage.outside storage.old }
     {
         if self.sender.is_none() {
-            return Answer::NoPort;
+            return Ok(Answer::NoPort);
         }
         match call {
             Call::Send {
@@ -98,113 +110,95 @@ impl Session {
                     offset,
                     SegmentId::new(segment),
                 );
-                match try_send(storage, value, size, channel) {
-                    Ok(None) => Answer::Ok,
-                    Ok(Some(evicted)) => Answer::Evicted(evicted),
-                    Err(error) => Answer::Refused(error.number()),
-                }
+                let evicted = try_send(storage, value, size, channel)?;
+                Ok(evicted.map_or(Answer::Ok, Answer::Evicted))
             }
-            Call::Reclaim(channel) => match reclaim(storage, channel) {
-                Ok(value) => value_or_none(value),
-                Err(error) => Answer::Refused(error.number()),
-            },
-            _ => Answer::NoPort,
+            Call::Reclaim(channel) => Ok(value_or_none(reclaim(storage, channel)?)),
+            _ => Ok(Answer::NoPort),
         }
     }
 
     /// The calls of a receiver.
-    fn receive_or_release<S: DynamicStorage>(&mut self, storage: &mut S, call: Call) -> Answer
+    fn receive_or_release<S: DynamicStorage>(
+        &mut self,
+        storage: &mut S,
+        call: Call,
+    ) -> Result<Answer, Refusal>
         ensures { S.DynamicStorage.outside storage.new ≡ S.DynamicStorage.outside storage.old }
     {
         if self.receiver.is_none() {
-            return Answer::NoPort;
+            return Ok(Answer::NoPort);
         }
         match call {
-            Call::Receive(channel) => match receive(storage, &mut self.counters, channel) {
-                Ok(value) => value_or_none(value),
-                Err(error) => Answer::Refused(error.number()),
-            },
+            Call::Receive(channel) => {
+                Ok(value_or_none(receive(storage, &mut self.counters, channel)?))
+            }
             Call::Release(offset, segment, channel) => {
                 let value = PointerOffset::from_offset_and_segment_id(
                     offset,
                     SegmentId::new(segment),
                 );
-                match release(storage, &mut self.counters, value, channel) {
-                    Ok(()) => Answer::Ok,
-                    Err(error) => Answer::Refused(error.number()),
-                }
+                release(storage, &mut self.counters, value, channel)?;
+                Ok(Answer::Ok)
             }
-            Call::HasData(channel) => match has_data(storage, channel) {
-                Ok(data) => yes_or_no(data),
-                Err(error) => Answer::Refused(error.number()),
-            },
-            Call::BorrowCount(channel) => match borrow_count(storage, &self.counters, channel) {
-                Ok(count) => Answer::Count(count),
-                Err(error) => Answer::Refused(error.number()),
-            },
-            _ => Answer::NoPort,
+            Call::HasData(channel) => Ok(yes_or_no(has_data(storage, channel)?)),
+            Call::BorrowCount(channel) => {
+                Ok(Answer::Count(borrow_count(storage, &self.counters, channel)?))
+            }
+            _ => Ok(Answer::NoPort),
         }
     }
 
-    fn set(&mut self, settings: Settings, state: StateWord) -> Answer {
-        let state = match state {
-            StateWord::Number(value) => match ChannelState::new(value) {
-                Ok(state) => state,
-                Err(error) => return Answer::Refused(error.number()),
-            },
+    fn set(&mut self, settings: Settings, state: StateWord) -> Result<Answer, Refusal> {
+        self.state = match state {
+            StateWord::Number(value) => ChannelState::new(value)?,
             StateWord::Closed => ChannelState::closed(),
         };
         self.settings = settings;
-        self.state = state;
-        Answer::Ok
+        Ok(Answer::Ok)
     }
 
-    fn create<S: DynamicStorage>(&mut self, storage: &mut S, port: Port) -> Answer
-        ensures { S.DynamicStorage.outside storage.new ≡ S.DynamicStorage.outside storage.old }
-    {
+    /// Where the token of a port is held.
+    fn slot(&mut self, port: Port) -> &mut Option<PortToken> {
         match port {
-            Port::Sender => match create_sender(storage, self.settings, self.state) {
-                Ok(token) => {
-                    hold(&mut self.sender, token);
-                    Answer::Ok
-                }
-                Err(error) => Answer::Refused(error.number()),
-            },
-            Port::Receiver => match create_receiver(storage, self.settings, self.state) {
-                Ok((token, counters)) => {
-                    hold(&mut self.receiver, token);
-                    self.counters = counters;
-                    Answer::Ok
-                }
-                Err(error) => Answer::Refused(error.number()),
-            },
+            Port::Sender => &mut self.sender,
+            Port::Receiver => &mut self.receiver,
         }
     }
 
-    fn close_port<S: DynamicStorage>(&mut self, storage: &mut S, port: Port) -> Answer
+    /// Creates a port and holds its token. A token that was held already is spent.
+    fn create<S: DynamicStorage>(&mut self, storage: &mut S, port: Port) -> Result<Answer, Refusal>
         ensures { S.DynamicStorage.outside storage.new ≡ S.DynamicStorage.outside storage.old }
     {
-        let held = match port {
-            Port::Sender => self.sender.take(),
-            Port::Receiver => self.receiver.take(),
+        let token = match port {
+            Port::Sender => create_sender(storage, self.settings, self.state)?,
+            Port::Receiver => {
+                let (token, counters) = create_receiver(storage, self.settings, self.state)?;
+                self.counters = counters;
+                token
+            }
         };
-        let Some(token) = held else {
-            return Answer::NoPort;
+        retire(self.slot(port).replace(token));
+        Ok(Answer::Ok)
+    }
+
+    fn close_port<S: DynamicStorage>(
+        &mut self,
+        storage: &mut S,
+        port: Port,
+    ) -> Result<Answer, Refusal>
+        ensures { S.DynamicStorage.outside storage.new ≡ S.DynamicStorage.outside storage.old }
+    {
+        let Some(token) = self.slot(port).take() else {
+            return Ok(Answer::NoPort);
         };
-        match close(storage, token) {
-            Ok(state) => Answer::State(state),
-            Err(error) => Answer::Refused(error.number()),
-        }
+        Ok(Answer::State(close(storage, token)?))
     }
 
     /// The borrow counters of the channels that the settings ask for.
     pub fn counters(&self) -> &[u64] {
-        let channels = self.settings.raised().number_of_channels;
-        if channels <= 64 {
-            &self.counters.counts[0..channels as usize]
-        } else {
-            &self.counters.counts[0..64]
-        }
+        let channels = self.settings.raised().number_of_channels.min(64);
+        &self.counters.counts[..channels as usize]
     }
 
     /// Closes the ports that are still held.
@@ -224,11 +218,7 @@ impl Session {
             receiver,
             counters: _,
         } = self;
-        if let Some(token) = sender {
-            retire(token);
-        }
-        if let Some(token) = receiver {
-            retire(token);
-        }
+        retire(sender);
+        retire(receiver);
     }
 }

@@ -4,7 +4,9 @@
 mod answer;
 mod holding;
 mod performing;
+mod refusal;
 
 pub use answer::Answer;
 pub use holding::Session;
 pub use performing::{list_words, perform_on};
+pub use refusal::Refusal;
