@@ -57,12 +57,7 @@ pub fn perform_on<S: DynamicStorage>(storage: &mut S, call: Call) -> Answer
 pub fn list_words<S: DynamicStorage>(heap: Global, storage: &S) -> Result<Vec<u64>, AllocError>
     ensures { IfOk result (λ v. v.items ≡ S.DynamicStorage.words storage.now) }
 {
-    let mut words = Vec::new(heap);
-    for place in 0..storage.len() {
-        let Some(word) = storage.read(place) else {
-            return Ok(words);
-        };
-        words.push(word)?;
-    }
-    Ok(words)
+    (0..storage.len())
+        .filter_map(|place| storage.read(place))
+        .collect(heap)
 }

@@ -1,13 +1,16 @@
-use Rattle.std.proofs.Common.{[], ◌∷◌, refl, ◌∙◌, arith}
-use Rattle.std.proofs.lemmas.List.{take_all}
-use Rattle.std.proofs.lemmas.Slice.{pushed}
-use Rattle.session.proofs.Listing.{one_more}
+use Rattle.std.proofs.Common.{rules, tests, ◌≡◌, ℕ, List, length, subst, ap, ◌∙◌, IfOk, vec_items, arith}
+use Rattle.std.proofs.lemmas.Iterator.{items_from_collect, YieldsList-from_range}
+use Rattle.std.proofs.lemmas.Iterator.Consumers.{YieldsList-from_filter_map}
+use Rattle.dynamic_storage.specs.Meaning.{word_at}
+use Rattle.session.proofs.Listing.{read_all}
 use Rattle.session.proofs.performing.list_words.Goals as goal
 
-pub loop-place-preserved : goal.loop-place-preserved
-loop-place-preserved g c =
-    one_more (g.S.DynamicStorage.words c.args.storage.now) _ _ c.loop-place.place c.in-Some.word c.loop-place.invariant c.in-Some.ensures
-    (pushed (c.in-Some.word ∷ []) refl c.in_ok-push.was c.push.ensures.items)
-
 pub returns : goal.returns
-returns g c = c.loop-place.invariant ∙ take_all c.loop-place.place (g.S.DynamicStorage.words c.args.storage.now) (omega (arith, c.len-place-end.ensures))
+returns g c =
+    let words : List ℕ = g.S.DynamicStorage.words c.args.storage.now in
+    subst (λ all. IfOk c.collect.result (λ v. vec_items v ≡ all)) (read_all words)
+    (items_from_collect c.collect.result c.collect.ensures.ran
+    (YieldsList-from_filter_map _ (word_at words)
+    (YieldsList-from_range 0 (length words) (length words) (c.filter_map.ensures.source ∙ ap (λ (n : ℕ). record { start = 0; end = n }) c.len.ensures) (omega arith))
+    c.filter_map.ensures.closure
+    (λ x r q k. search (rules, tests))))
