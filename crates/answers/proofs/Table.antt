@@ -1,25 +1,16 @@
 -- What is known of the names as a whole, from a test of each row of the table.
-use Rattle.std.proofs.Common.{◌≡◌, ℕ, ◌≤◌, Bool, true, cond, ◌&&◌, eqb, leb, List, [], ◌∷◌, length, codes, sym, refl, ap, ◌∙◌, subst, zero-le}
+use Rattle.std.proofs.Common.{◌≡◌, ℕ, ◌≤◌, Bool, true, cond, eqb, leb, List, [], ◌∷◌, length, codes, sym, refl, ap, ◌∙◌, subst, zero-le}
 use Prim.Native.String.{String}
+use Rattle.std.specs.List.{list_all}
 use Rattle.std.specs.Str.{bytes_eq}
 use Rattle.std.proofs.lemmas.Bool.{and_parts, cond_both, eqb-true, leb-true}
 use Rattle.answers.specs.Names.{named, name_in, name_of}
 
--- the name of a number that equals k is what the table has at k
-pub listed : {n k : ℕ} → n ≡ k → name_in named k ≡ name_of n
-unfolding name_of
-listed e = ap (λ (m : ℕ). name_in named m) (sym e)
-
--- each row passes a test
-abbrev every : (ℕ × String → Bool) → List (ℕ × String) → Bool
-every f [] = true
-every f (row ∷ rows) = f row && every f rows
-
 -- what holds of the empty name, and of each row that passes a test, holds of the name of any number
-by_rows : (P : ℕ → List ℕ → Type 0) (f : ℕ × String → Bool) → ((n : ℕ) → P n []) → ((row : ℕ × String) → f row ≡ true → P row.0 (codes row.1)) → (rows : List (ℕ × String)) → every f rows ≡ true → (n : ℕ) → P n (name_in rows n)
+by_rows : (P : ℕ → List ℕ → Type 0) (f : ℕ × String → Bool) → ((n : ℕ) → P n []) → ((row : ℕ × String) → f row ≡ true → P row.0 (codes row.1)) → (rows : List (ℕ × String)) → list_all f rows ≡ true → (n : ℕ) → P n (name_in rows n)
 by_rows P f none one [] t n = none n
 by_rows P f none one (row ∷ rows) t n =
-    let ts = and_parts (f row) (every f rows) t in
+    let ts = and_parts (f row) (list_all f rows) t in
     cond_both (eqb n row.0) (codes row.1) (name_in rows n) (P n)
     (λ e. subst (λ (m : ℕ). P m (codes row.1)) (sym (eqb-true n row.0 e)) (one row ts.0))
     (λ _. by_rows P f none one rows ts.1 n)

@@ -5,6 +5,7 @@ ghost use Rattle.std.specs.Prelude.{◌≡◌, ℕ, ◌≤◌, [], ◌++◌, len
 ghost use Rattle.answers.specs.Names.{name_of};
 
 /// The name of an answer. A number that is no answer has the empty name.
+#[tactic(auto, unfolding(crate::specs::Names::name_of))]
 pub fn name(number: u64) -> &'static str
     ensures { result.now ≡ name_of number }
 {
@@ -49,16 +50,19 @@ pub fn name(number: u64) -> &'static str
 }
 
 /// Writes the name of an answer to the front of some bytes, leaves those behind it, and answers its length.
+#[tactic(auto, using(crate::proofs::Table::fits))]
 pub fn write_name(number: u64, bytes: &mut [u8; 47]) -> usize
     ensures written { bytes.new ≡ name_of number ++ drop (length (name_of number)) bytes.old }
     ensures counted { result ≡ length (name_of number) }
 {
+    // The bytes are the caller's, so that nothing is allocated.
     let text = name(number).as_bytes();
-    bytes[0..text.len()].copy_from_slice(text);
+    bytes[..text.len()].copy_from_slice(text);
     text.len()
 }
 
 /// No name is longer than 47 bytes, and no two numbers have the same name, unless it is empty.
+#[tactic(auto, using(crate::proofs::Table::fits, crate::proofs::Table::differ))]
 pub fn names_fit()
     ensures fit { (n : ℕ) → length (name_of n) ≤ 47 }
     ensures differ { (m n : ℕ) → name_of m ≡ name_of n → (name_of m ≢ []) → m ≡ n }
