@@ -33,6 +33,10 @@ fn value_or_none(value: Option<u64>) -> Answer {
     value.map_or(Answer::None, Answer::Value)
 }
 
+fn pointer_offset(offset: u64, segment: u8) -> PointerOffset {
+    PointerOffset::from_offset_and_segment_id(offset, SegmentId::new(segment))
+}
+
 impl Default for Session {
     /// The settings are those of the Rust's builder.
     fn default() -> Session {
@@ -78,27 +82,26 @@ impl Session {
             Call::Settings(settings, state) => self.set(settings, state),
             Call::Create(port) => self.create(storage, port),
             Call::Close(port) => self.close_port(storage, port),
-            Call::Counters if self.receiver.is_none() => Ok(Answer::NoPort),
+            Call::Send { .. } | Call::Reclaim(_) if self.sender.is_none() => Ok(Answer::NoPort),
+            Call::Receive(_)
+            | Call::Release(_, _, _)
+            | Call::HasData(_)
+            | Call::BorrowCount(_)
+            | Call::Counters
+                if self.receiver.is_none() => Ok(Answer::NoPort),
             Call::Counters => Ok(Answer::Counters),
-            Call::Send { .. } | Call::Reclaim(_) => self.send_or_reclaim(storage, call),
-            Call::Receive(_) | Call::Release(_, _, _) | Call::HasData(_) | Call::BorrowCount(_) => {
-                self.receive_or_release(storage, call)
-            }
-            _ => Ok(perform_on(storage, call)),
+            _ => self.transfer(storage, call),
         }
     }
 
-    /// The calls of a sender.
-    fn send_or_reclaim<S: DynamicStorage>(
+    /// The calls on a channel, whose port is held. Any other is one on the storage alone.
+    fn transfer<S: DynamicStorage>(
         &mut self,
         storage: &mut S,
         call: Call,
     ) -> Result<Answer, Refusal>
         ensures { S.DynamicStorage.outside storage.new ≡ S.DynamicStorage.outside storage.old }
     {
-        if self.sender.is_none() {
-            return Ok(Answer::NoPort);
-        }
         match call {
             Call::Send {
                 offset,
@@ -106,46 +109,26 @@ impl Session {
                 size,
                 channel,
             } => {
-                let value = PointerOffset::from_offset_and_segment_id(
-                    offset,
-                    SegmentId::new(segment),
-                );
+                let value = pointer_offset(offset, segment);
                 let evicted = try_send(storage, value, size, channel)?;
                 Ok(evicted.map_or(Answer::Ok, Answer::Evicted))
             }
             Call::Reclaim(channel) => Ok(value_or_none(reclaim(storage, channel)?)),
-            _ => Ok(Answer::NoPort),
-        }
-    }
-
-    /// The calls of a receiver.
-    fn receive_or_release<S: DynamicStorage>(
-        &mut self,
-        storage: &mut S,
-        call: Call,
-    ) -> Result<Answer, Refusal>
-        ensures { S.DynamicStorage.outside storage.new ≡ S.DynamicStorage.outside storage.old }
-    {
-        if self.receiver.is_none() {
-            return Ok(Answer::NoPort);
-        }
-        match call {
             Call::Receive(channel) => {
-                Ok(value_or_none(receive(storage, &mut self.counters, channel)?))
+                let value = receive(storage, &mut self.counters, channel)?;
+                Ok(value_or_none(value))
             }
             Call::Release(offset, segment, channel) => {
-                let value = PointerOffset::from_offset_and_segment_id(
-                    offset,
-                    SegmentId::new(segment),
-                );
+                let value = pointer_offset(offset, segment);
                 release(storage, &mut self.counters, value, channel)?;
                 Ok(Answer::Ok)
             }
             Call::HasData(channel) => Ok(yes_or_no(has_data(storage, channel)?)),
             Call::BorrowCount(channel) => {
-                Ok(Answer::Count(borrow_count(storage, &self.counters, channel)?))
+                let count = borrow_count(storage, &self.counters, channel)?;
+                Ok(Answer::Count(count))
             }
-            _ => Ok(Answer::NoPort),
+            _ => Ok(perform_on(storage, call)),
         }
     }
 
