@@ -38,6 +38,10 @@ fn pointer_offset(offset: u64, segment: u8) -> PointerOffset {
 }
 
 impl Default for Session {
+    ghost use Rattle.session.specs.Holding.{HoldsNoPort};
+
+    ghost is_default = { HoldsNoPort };
+
     /// The settings are those of the Rust's builder.
     fn default() -> Session {
         Session {
@@ -58,8 +62,12 @@ impl Default for Session {
 }
 
 impl Session {
-    /// The default session, which holds no port.
-    pub fn new() -> Session {
+    ghost use Rattle.session.specs.Holding.{HoldsNoPort};
+
+    /// The default session.
+    pub fn new() -> Session
+        ensures { HoldsNoPort result }
+    {
         Session::default()
     }
 
