@@ -1,5 +1,5 @@
 /// The script that runs where none is given.
-pub(crate) fn story() -> &'static [u8] {
+pub(crate) const STORY: &[u8] =
     b"# A connection in borrowed bytes, in a window whose words have their bytes reversed.
 storage bytes 400 swapped window 2 30
 condition
@@ -37,5 +37,4 @@ counters
 close sender
 close receiver
 condition
-"
-}
+";

@@ -2,7 +2,7 @@ ghost use Rattle.script.specs.Scripts.{parsed_script};
 ghost use Rattle.replayer.specs.Replayed.{Replayed};
 
 use crate::backing::Spoiled;
-use crate::built_in::story;
+use crate::built_in::STORY;
 use crate::error::ReplayError;
 use crate::layers::{CloseAll, Perform, visit_through};
 use script::call::{Backing, Call};
@@ -17,7 +17,7 @@ pub fn replay_input(rt: &HostRuntime) -> anyhow::Result<()> {
     let mut text = Vec::new(rt.alloc());
     rt.stdin().read_to_end(&mut text)?;
     let script = if text.is_empty() {
-        story()
+        STORY
     } else {
         text.as_slice()
     };
