@@ -27,6 +27,7 @@ pub struct Pile {
 }
 
 /// The word of a state, as a line writes it.
+// No Option<u64>: closed is a state that is asked for, and not a missing one.
 #[derive(Clone, Copy, Debug, PartialEq, Eq)]
 pub enum StateWord {
     Number(u64),
@@ -34,8 +35,7 @@ pub enum StateWord {
 }
 
 /// A call that a line asks for.
-// No Debug and no ==, since Port has neither.
-#[derive(Clone, Copy)]
+#[derive(Clone, Copy, Debug, PartialEq, Eq)]
 pub enum Call {
     Condition,
     Length,
@@ -64,8 +64,7 @@ pub enum Call {
 }
 
 /// What a line says.
-// No Debug and no ==, since Call has neither.
-#[derive(Clone, Copy)]
+#[derive(Clone, Copy, Debug, PartialEq, Eq)]
 pub enum Line {
     Blank,
     Storage(Pile),

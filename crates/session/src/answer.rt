@@ -1,9 +1,10 @@
 use crate::Refusal;
+use connection_words::PortState;
 use dynamic_storage::Condition;
 use std::fmt;
 
 /// What a call of a script answers.
-#[derive(Clone, Copy)]
+#[derive(Clone, Copy, Debug, PartialEq, Eq)]
 pub enum Answer {
     Yes,
     No,
@@ -20,7 +21,7 @@ pub enum Answer {
     /// A value was sent, and this one left the buffer for it.
     Evicted(u64),
     /// The port state that a close leaves.
-    State(u64),
+    State(PortState),
     /// The call was refused.
     Refused(Refusal),
     /// The script holds no such port.
@@ -37,25 +38,14 @@ impl fmt::Display for Answer {
             Answer::None => write!(f, "none"),
             Answer::Value(value) => write!(f, "value {value}"),
             Answer::Count(count) => write!(f, "count {count}"),
-            Answer::Shows(condition) => write!(f, "{}", name(*condition)),
+            Answer::Shows(condition) => write!(f, "{condition}"),
             Answer::Place { segment, offset } => write!(f, "segment {segment} offset {offset}"),
             Answer::List | Answer::Counters => write!(f, "list"),
             Answer::Ok => write!(f, "ok"),
             Answer::Evicted(value) => write!(f, "evicted {value}"),
-            Answer::State(state) => write!(f, "state {state}"),
+            Answer::State(state) => write!(f, "state {}", u64::from(*state)),
             Answer::Refused(refusal) => write!(f, "refused {refusal}"),
             Answer::NoPort => write!(f, "noport"),
         }
-    }
-}
-
-/// The word for a condition.
-fn name(condition: Condition) -> &'static str {
-    match condition {
-        Condition::Absent => "absent",
-        Condition::Forming => "forming",
-        Condition::Ready => "ready",
-        Condition::Broken => "broken",
-        Condition::OtherVersion => "other",
     }
 }

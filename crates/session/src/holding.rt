@@ -2,9 +2,7 @@ ghost use Rattle.std.specs.Prelude.{◌≡◌};
 
 use crate::performing::{perform_on, yes_or_no};
 use crate::{Answer, Refusal};
-use connection_ports::{
-    BorrowCounters, ChannelState, Port, PortToken, close, create_receiver, create_sender,
-};
+use connection_ports::{BorrowCounters, Builder, ChannelState, Port, PortToken, close};
 use connection_words::Settings;
 use dynamic_storage::DynamicStorage;
 use script::call::{Call, StateWord};
@@ -12,10 +10,9 @@ use shm_allocator::{PointerOffset, SegmentId};
 use storage_backings::ProcessLocal;
 use zero_copy_connection::{borrow_count, has_data, receive, reclaim, release, try_send};
 
-/// What a script holds between its calls: the settings for creations, the ports it created and the counters.
+/// What a script holds between its calls: the builder of its ports, those it created and the counters.
 pub struct Session {
-    settings: Settings,
-    state: ChannelState,
+    builder: Builder,
     sender: Option<PortToken>,
     receiver: Option<PortToken>,
     counters: BorrowCounters,
@@ -45,15 +42,17 @@ impl Default for Session {
     /// The settings are those of the Rust's builder.
     fn default() -> Session {
         Session {
-            settings: Settings {
-                buffer_size: 4,
-                max_borrowed_samples_per_channel: 4,
-                number_of_samples_per_segment: 8,
-                number_of_segments: 1,
-                number_of_channels: 1,
-                enable_safe_overflow: false,
+            builder: Builder {
+                settings: Settings {
+                    buffer_size: 4,
+                    max_borrowed_samples_per_channel: 4,
+                    number_of_samples_per_segment: 8,
+                    number_of_segments: 1,
+                    number_of_channels: 1,
+                    enable_safe_overflow: false,
+                },
+                initial_channel_state: ChannelState::open(),
             },
-            state: ChannelState::open(),
             sender: None,
             receiver: None,
             counters: BorrowCounters::new(),
@@ -141,11 +140,14 @@ impl Session {
     }
 
     fn set(&mut self, settings: Settings, state: StateWord) -> Result<Answer, Refusal> {
-        self.state = match state {
+        let initial_channel_state = match state {
             StateWord::Number(value) => ChannelState::new(value)?,
             StateWord::Closed => ChannelState::closed(),
         };
-        self.settings = settings;
+        self.builder = Builder {
+            settings,
+            initial_channel_state,
+        };
         Ok(Answer::Ok)
     }
 
@@ -162,9 +164,9 @@ impl Session {
         ensures { S.DynamicStorage.outside storage.new ≡ S.DynamicStorage.outside storage.old }
     {
         let token = match port {
-            Port::Sender => create_sender(storage, self.settings, self.state)?,
+            Port::Sender => self.builder.create_sender(storage)?,
             Port::Receiver => {
-                let (token, counters) = create_receiver(storage, self.settings, self.state)?;
+                let (token, counters) = self.builder.create_receiver(storage)?;
                 self.counters = counters;
                 token
             }
@@ -188,7 +190,7 @@ impl Session {
 
     /// The borrow counters of the channels that the settings ask for.
     pub fn counters(&self) -> &[u64] {
-        let channels = self.settings.raised().number_of_channels.min(64);
+        let channels = self.builder.settings.raised().number_of_channels.min(64);
         &self.counters.counts[..channels as usize]
     }
 
@@ -203,8 +205,7 @@ impl Session {
     /// Ends the session. Ports that are still held are given up.
     pub fn abandon(self) {
         let Session {
-            settings: _,
-            state: _,
+            builder: _,
             sender,
             receiver,
             counters: _,

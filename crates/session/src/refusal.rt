@@ -2,7 +2,8 @@ ghost use Rattle.std.specs.Prelude.{◌≡◌};
 ghost use Rattle.session.specs.Refusals.{refusal_number};
 ghost use Rattle.session.specs.declared.refusal.Refusal.TheVariants.{State, Creation, Close, Send, Receive, Release, Reclaim, Channel};
 
-use connection_ports::{ChannelStateNewError, PortCloseError, ZeroCopyCreationError};
+use connection_ports::{ChannelStateNewError, Numbered, PortCloseError, ZeroCopyCreationError};
+use std::error::Error;
 use std::fmt;
 use zero_copy_connection::{
     ChannelError, ZeroCopyReceiveError, ZeroCopyReclaimError, ZeroCopyReleaseError,
@@ -10,7 +11,7 @@ use zero_copy_connection::{
 };
 
 /// Why a call of a script was refused.
-#[derive(Clone, Copy)]
+#[derive(Clone, Copy, Debug, PartialEq, Eq)]
 pub enum Refusal {
     State(ChannelStateNewError),
     Creation(ZeroCopyCreationError),
@@ -22,11 +23,10 @@ pub enum Refusal {
     Channel(ChannelError),
 }
 
-impl Refusal {
-    /// The number of the refusal.
-    pub fn number(self) -> u64
-        ensures { result ≡ refusal_number self }
-    {
+impl Numbered for Refusal {
+    ghost number = { refusal_number };
+
+    fn number(self) -> u64 {
         match self {
             Refusal::State(error) => error.number(),
             Refusal::Creation(error) => error.number(),
@@ -46,6 +46,8 @@ impl fmt::Display for Refusal {
         write!(f, "{number} {}", answers::name(number))
     }
 }
+
+impl Error for Refusal {}
 
 impl From<ChannelStateNewError> for Refusal {
     ghost from_gives = { λ error refusal. refusal ≡ State error };
