@@ -5,6 +5,7 @@ ghost use Rattle.std.specs.Prelude.{◌≡◌, ℕ, ◌≤◌, [], ◌++◌, len
 ghost use Rattle.answers.specs.Names.{name_of};
 
 /// The name of an answer. A number that is no answer has the empty name.
+// By its number, whichever error that came from.
 #[tactic(auto, unfolding(crate::specs::Names::name_of))]
 pub fn name(number: u64) -> &'static str
     ensures { result.now ≡ name_of number }

@@ -14,12 +14,14 @@ pub struct Waiting {
     pub(crate) budget: u64,
     pub(crate) retries: u64,
     pub(crate) steps: u64,
+    // No Option beside the retries: they are still counted after the send was told to retry until delivered.
     pub(crate) until_delivered: bool,
     ghost fits: { steps + budget < 2 ^ 64 },
     ghost asked: { retries ≤ steps },
 }
 
 /// What a step of a pending send comes to.
+// No Result: to stay pending is neither of its cases, and the end is a Result itself.
 #[derive(Debug, PartialEq, Eq, Drop)]
 pub enum Step {
     Pending(Waiting),

@@ -16,6 +16,8 @@ use crate::{
 use connection_words::{Layout, PortState, Settings, put, word};
 use dynamic_storage::{Condition, DynamicStorage, Stage};
 
+// No refusal of the private functions below carries a fault. An error type that says so would repeat twelve of the cases.
+
 /// How a storage is entered, or its fault.
 fn entry_of(condition: Condition) -> Result<Entry, DynamicStorageOpenError>
     ensures { result ≡ entry_of condition }

@@ -54,6 +54,7 @@ impl Fresh {
         requires { needed self.now.layout.settings ≤ length (S.DynamicStorage.words storage.old) }
         ensures { WordsBecome S.DynamicStorage storage.old storage.new (fresh_words self.now.layout.settings self.now.state.0 (bit_of self.now.port) (S.DynamicStorage.words storage.old)) }
     {
+        // Over numbers: a storage is no slice.
         for place in 0..self.layout.words_needed() {
             put(storage, place, self.word(place));
         }

@@ -18,7 +18,7 @@ pub(crate) enum Entry {
 
 /// What a creation hands out: the right and the duty to close a port. It holds no storage, and it can be let go only once
 /// it was closed.
-// A type that is no Drop could not be let go either, but only the requires of a drop says what is owed.
+// The flag stays: a type that is no Drop could not be let go either, but only what a drop requires says what is owed.
 #[derive(Debug, PartialEq, Eq)]
 pub struct PortToken {
     pub(crate) port: Port,

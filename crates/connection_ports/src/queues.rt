@@ -11,6 +11,7 @@ use dynamic_storage::DynamicStorage;
 fn are_queues_sound<S: DynamicStorage>(storage: &S, layout: &Layout) -> bool
     ensures { result ≡ queues_sound (S.DynamicStorage.words storage.now) layout.now.settings (channels layout.now.settings) }
 {
+    // Over numbers: a channel is made from its number.
     for index in 0..layout.settings().number_of_channels {
         let Some(channel) = layout.channel(index) else {
             return false;

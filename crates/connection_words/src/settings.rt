@@ -6,5 +6,6 @@ pub struct Settings {
     pub number_of_samples_per_segment: u64,
     pub number_of_segments: u64,
     pub number_of_channels: u64,
+    /// A setting of the Rust, by its name there.
     pub enable_safe_overflow: bool,
 }

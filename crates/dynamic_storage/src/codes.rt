@@ -9,10 +9,7 @@ impl Condition {
     pub fn is_settable(self) -> bool
         ensures { result ≡ settable self }
     {
-        match self {
-            Condition::Absent | Condition::Forming | Condition::Ready => true,
-            Condition::Broken | Condition::OtherVersion => false,
-        }
+        !matches!(self, Condition::Broken | Condition::OtherVersion)
     }
 }
 

@@ -14,6 +14,7 @@ pub use condition::{Condition, Stage};
 ///
 /// `condition` and `words` are what the storage means. `outside` is the rest of the memory that it stands in, part by
 /// part: what is neither of the two, and no call may change.
+// A call that changes more than the words says in one equation that the outside stays, which a name would not shorten.
 pub trait DynamicStorage {
     ghost condition: { Self → Condition };
 

@@ -1,7 +1,7 @@
 /// What a call of a history answers.
 #[derive(Clone, Copy, Debug, PartialEq, Eq)]
 pub enum Answer {
-    /// A refusal, by the number that the definition of an answer gives it.
+    /// A refusal by its number: the theorems compare answers, and the definition of an answer gives numbers.
     Refused(u64),
     Nothing,
     Value(u64),

@@ -17,11 +17,7 @@ use std::alloc::{AllocError, Global};
 pub fn free_slots(heap: Global) -> Result<Vec<Option<Waiting>>, AllocError>
     ensures { IfOk result (λ waits. waits.items ≡ replicate 64 None) }
 {
-    let mut waits = Vec::with_capacity(heap, 64)?;
-    for _i in 0..64usize {
-        waits.push_reserved(None);
-    }
-    Ok(waits)
+    (0..64usize).map(|_| None).collect(heap)
 }
 
 /// Memory for the slots and for as many answers as there are calls.

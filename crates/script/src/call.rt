@@ -22,6 +22,7 @@ pub struct Frame {
 pub struct Pile {
     pub backing: Backing,
     pub lower: Option<Frame>,
+    /// Whether the bytes of each word are reversed, between the two windows.
     pub swapped: bool,
     pub upper: Option<Frame>,
 }

@@ -1,4 +1,3 @@
 pub mod Opens
-pub mod Frees
 pub mod Evicts
 pub mod Delivers

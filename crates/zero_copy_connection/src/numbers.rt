@@ -36,6 +36,7 @@ impl Numbered for ZeroCopySendError {
     }
 }
 
+// A table for each error, since their cases differ.
 impl Numbered for ZeroCopyReceiveError {
     ghost number = { receive_number };
 

@@ -26,6 +26,9 @@ struct ChunkPlaces {
     mark: u64,
 }
 
+// The storage and the channel are passed side by side: a struct with both would hold a loan, whose end each contract
+// would have to tell.
+
 /// Whether as many values wait as the buffer takes.
 pub fn is_full<S: DynamicStorage>(storage: &S, channel: &Channel) -> bool
     ensures { result ≡ is_full (S.DynamicStorage.words storage.now) channel.now.layout.settings channel.now.index }
