@@ -1,5 +1,5 @@
 use dynamic_storage::DynamicStorage;
-use storage_backings::{BorrowedBytes, BorrowedWords, ProcessLocal};
+use storage_backings::{Borrowed, ProcessLocal, WordMemory};
 
 /// A backing whose code a script can spoil.
 pub trait Spoiled: DynamicStorage {
@@ -7,13 +7,7 @@ pub trait Spoiled: DynamicStorage {
     fn spoil(&mut self, code: u64) -> bool;
 }
 
-impl Spoiled for BorrowedWords<'_> {
-    fn spoil(&mut self, code: u64) -> bool {
-        self.write_code(code)
-    }
-}
-
-impl Spoiled for BorrowedBytes<'_> {
+impl<M: WordMemory> Spoiled for Borrowed<M> {
     fn spoil(&mut self, code: u64) -> bool {
         self.write_code(code)
     }

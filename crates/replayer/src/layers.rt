@@ -65,6 +65,7 @@ impl<V: Visit> Visit for Windowed<V> {
 }
 
 /// Visits a storage with the bytes of each word reversed, where that is asked for.
+// The flag is the script's, which has no value with it.
 struct Swapped<V> {
     swapped: bool,
     inner: V,

@@ -6,6 +6,8 @@ use crate::arguments::{next_argument, one, two};
 use crate::call::{Call, Expected};
 use crate::words::Words;
 
+// Apart from the line of a release: what they share is two lines, and a helper would take a closure of its own for each.
+
 // The rest of a line that sends a value.
 fn send_call(words: &mut Words<'_>) -> Result<Call, Expected>
     ensures { result ≡ sent (ahead words.old) }
