@@ -82,6 +82,7 @@ pub(crate) fn answer_to_send<E: Numbered>(
 }
 
 /// Makes a call.
+// Three loans side by side: a struct of them would have to give them back by a contract of its own.
 pub fn perform<S: DynamicStorage, P: BackpressurePolicy>(
     storage: &mut S,
     counters: &mut BorrowCounters,

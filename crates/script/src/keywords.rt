@@ -8,7 +8,8 @@ use crate::ports::next_settings;
 use crate::transfers::transfer_call;
 use crate::words::Words;
 
-// A function for each of the five tables of the grammar, each with the tables behind it.
+// A function for each of the five tables of the grammar, each with the tables behind it. The keyword goes beside the words
+// behind it, as in the grammar.
 
 /// The call of a line that begins with a keyword, first of those on the words of the storage.
 pub(crate) fn call(keyword: &[u8], words: &mut Words<'_>) -> Result<Call, Expected>

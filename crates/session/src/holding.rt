@@ -163,6 +163,7 @@ impl Session {
     fn create<S: DynamicStorage>(&mut self, storage: &mut S, port: Port) -> Result<Answer, Refusal>
         ensures { S.DynamicStorage.outside storage.new ≡ S.DynamicStorage.outside storage.old }
     {
+        // By port, since only a receiver has counters.
         let token = match port {
             Port::Sender => self.builder.create_sender(storage)?,
             Port::Receiver => {

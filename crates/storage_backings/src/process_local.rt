@@ -5,6 +5,7 @@ ghost use Rattle.dynamic_storage.specs.declared.condition.Stage.TheVariants.{Abs
 use dynamic_storage::{Condition, DynamicStorage, Stage};
 
 /// 512 words of its own, for ports within one process.
+// An array: the storage takes no heap.
 #[derive(Drop)]
 pub struct ProcessLocal {
     words: [u64; 512],

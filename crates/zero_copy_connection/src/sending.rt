@@ -141,6 +141,8 @@ fn deliver<S: DynamicStorage>(
     free_evicted(storage, channel, oldest)
 }
 
+// The three arguments are those of the Rust, under its names.
+
 /// Sends a value on a channel, and answers the value that it evicted from a full buffer.
 pub fn try_send<S: DynamicStorage>(
     storage: &mut S,
