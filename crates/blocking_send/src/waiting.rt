@@ -14,7 +14,8 @@ pub struct Waiting {
     pub(crate) budget: u64,
     pub(crate) retries: u64,
     pub(crate) steps: u64,
-    // No Option beside the retries: they are still counted after the send was told to retry until delivered.
+    // A flag beside the retries, as in the definition of a pending send: an Option in place of both would forget how often
+    // the policy was asked.
     pub(crate) until_delivered: bool,
     ghost fits: { steps + budget < 2 ^ 64 },
     ghost asked: { retries ≤ steps },

@@ -3,3 +3,4 @@ pub mod Fresh
 pub mod Creation
 pub mod Closing
 pub mod Laws
+pub mod Tokens

@@ -1,8 +1,9 @@
-ghost use Rattle.std.specs.Prelude.{◌≡◌, ℕ, ◌+◌, true, false, cond, length, replicate, IfOk, Some, None, slice_index};
+ghost use Rattle.std.specs.Prelude.{◌≡◌, ℕ, ◌+◌, cond, length, replicate, IfOk, Some, None, slice_index};
 ghost use Rattle.dynamic_storage.specs.Changes.{WordsBecome};
 ghost use Rattle.dynamic_storage.specs.declared.condition.Condition.TheVariants.{Absent, Ready};
 ghost use Rattle.connection_words.specs.PortStates.{state_word};
 ghost use Rattle.connection_ports.specs.Numbers.{creation_number, refused_by, fault_of, bit_of};
+ghost use Rattle.connection_ports.specs.Tokens.{Open};
 ghost use Rattle.connection_ports.specs.Fresh.{fresh_words};
 ghost use Rattle.connection_ports.specs.Creation.{entry_of, mismatch, join_refusal, joined, room_refusal, unless, Creates};
 ghost use Rattle.connection_ports.specs.declared.port.Port.TheVariants as port;
@@ -16,7 +17,8 @@ use crate::{
 use connection_words::{Layout, PortState, Settings, put, word};
 use dynamic_storage::{Condition, DynamicStorage, Stage};
 
-// No refusal of the private functions below carries a fault. An error type that says so would repeat twelve of the cases.
+// No refusal of the private functions below carries a fault. An error type that says so would be a second one beside the
+// Rust's, with eleven of its cases.
 
 /// How a storage is entered, or its fault.
 fn entry_of(condition: Condition) -> Result<Entry, DynamicStorageOpenError>
@@ -85,7 +87,7 @@ fn join<S: DynamicStorage>(
     ensures answer { refused_by creation_number result ≡ join_refusal port settings (S.DynamicStorage.condition storage.old) (S.DynamicStorage.words storage.old) }
     ensures fault { fault_of result ≡ None }
     ensures storage { WordsBecome S.DynamicStorage storage.old storage.new (unless (join_refusal port settings (S.DynamicStorage.condition storage.old) (S.DynamicStorage.words storage.old)) (S.DynamicStorage.words storage.old) (joined port (S.DynamicStorage.words storage.old))) }
-    ensures token { IfOk result (λ token. (token.port ≡ port) × (token.spent ≡ false)) }
+    ensures token { IfOk result (Open port) }
 {
     let joined = check_join(storage, port, settings)?;
     put(storage, 0, u64::from(joined));
@@ -100,7 +102,7 @@ fn set_up<S: DynamicStorage>(
     requires { S.DynamicStorage.condition storage.old ≡ Absent }
     ensures answer { refused_by creation_number result ≡ room_refusal fresh.now.layout.settings (S.DynamicStorage.words storage.old) }
     ensures fault { fault_of result ≡ None }
-    ensures token { IfOk result (λ token. (token.port ≡ fresh.now.port) × (token.spent ≡ false)) }
+    ensures token { IfOk result (Open fresh.now.port) }
     ensures words { S.DynamicStorage.words storage.new ≡ unless (room_refusal fresh.now.layout.settings (S.DynamicStorage.words storage.old)) (S.DynamicStorage.words storage.old) (fresh_words fresh.now.layout.settings fresh.now.state.0 (bit_of fresh.now.port) (S.DynamicStorage.words storage.old)) }
     ensures condition { S.DynamicStorage.condition storage.new ≡ unless (room_refusal fresh.now.layout.settings (S.DynamicStorage.words storage.old)) Absent Ready }
     ensures outside { S.DynamicStorage.outside storage.new ≡ S.DynamicStorage.outside storage.old }
@@ -125,7 +127,7 @@ impl Builder {
         port: Port,
     ) -> Result<PortToken, ZeroCopyCreationError>
         ensures creation { Creates S.DynamicStorage port self.now.settings self.now.initial_channel_state.0 storage.old storage.new result }
-        ensures token { IfOk result (λ token. (token.port ≡ port) × (token.spent ≡ false)) }
+        ensures token { IfOk result (Open port) }
     {
         let Some(layout) = Layout::new(self.settings.raised()) else {
             return Err(ZeroCopyCreationError::SettingTooLarge);
@@ -149,7 +151,7 @@ impl Builder {
         storage: &mut S,
     ) -> Result<PortToken, ZeroCopyCreationError>
         ensures creation { Creates S.DynamicStorage port.Sender self.now.settings self.now.initial_channel_state.0 storage.old storage.new result }
-        ensures token { IfOk result (λ token. (token.port ≡ port.Sender) × (token.spent ≡ false)) }
+        ensures token { IfOk result (Open port.Sender) }
     {
         self.create(storage, Port::Sender)
     }
@@ -160,7 +162,7 @@ impl Builder {
         storage: &mut S,
     ) -> Result<(PortToken, BorrowCounters), ZeroCopyCreationError>
         ensures creation { Creates S.DynamicStorage port.Receiver self.now.settings self.now.initial_channel_state.0 storage.old storage.new result }
-        ensures token { IfOk result (λ made. (made.0.port ≡ port.Receiver) × (made.0.spent ≡ false)) }
+        ensures token { IfOk result (λ made. Open port.Receiver made.0) }
         ensures counters { IfOk result (λ made. made.1.counts ≡ replicate 64 0) }
     {
         let token = self.create(storage, Port::Receiver)?;

@@ -7,7 +7,7 @@ use crate::{Layout, Queue, Ring, Settings};
 use dynamic_storage::DynamicStorage;
 
 /// One of the channels of a connection.
-#[derive(Clone, Copy, Debug)]
+#[derive(Clone, Copy, Debug, PartialEq, Eq)]
 pub struct Channel {
     pub(crate) layout: Layout,
     pub(crate) index: u64,

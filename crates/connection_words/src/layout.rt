@@ -6,7 +6,7 @@ ghost use Rattle.connection_words.specs.Places.{channel_at, detail_at, needed};
 use crate::{Channel, Settings};
 
 /// Where the parts of a connection stand, for settings that lie in their limits.
-#[derive(Clone, Copy, Debug)]
+#[derive(Clone, Copy, Debug, PartialEq, Eq)]
 pub struct Layout {
     pub(crate) settings: Settings,
     ghost limits: { Limits settings },

@@ -1,3 +1,4 @@
 pub mod Meaning
 pub mod Codes
 pub mod Changes
+pub mod Texts

@@ -1,3 +1,5 @@
+ghost use Rattle.std.specs.Prelude.{Some};
+
 use std::fmt;
 
 /// What is known of a storage as a whole.
@@ -28,6 +30,10 @@ pub enum Stage {
 
 /// The word by which a condition is printed.
 impl fmt::Display for Condition {
+    ghost use Rattle.dynamic_storage.specs.Texts.{condition_text};
+
+    ghost output = { λ condition. Some (condition_text condition) };
+
     fn fmt<W: fmt::Write>(&self, f: &mut fmt::Formatter<W>) -> fmt::Result {
         f.write_str(match self {
             Condition::Absent => "absent",

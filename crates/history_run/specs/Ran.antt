@@ -1,11 +1,10 @@
 -- What a whole history of calls is known to be.
-use Rattle.std.specs.Prelude.{◌≡◌, ℕ, ◌<◌, false, ◌≢◌, List, [], ◌++◌, replicate, Some, None, Option}
+use Rattle.std.specs.Prelude.{◌≡◌, ℕ, ◌<◌, ◌≢◌, List, [], ◌++◌, replicate, Some, None, Option}
 use Rattle.dynamic_storage.specs.declared.condition.Condition.{Condition}
 use Rattle.dynamic_storage.specs.declared.condition.Condition.TheVariants.{Absent}
 use Rattle.connection_words.specs.declared.settings.Settings.{Settings}
 use Rattle.connection_words.specs.Settings.{channels, raised}
 use Rattle.connection_ports.specs.declared.port.Port.{Port}
-use Rattle.connection_ports.specs.declared.port.PortToken.{PortToken}
 use Rattle.connection_ports.specs.Numbers.{creation_number}
 use Rattle.connection_ports.specs.Creation.{creation_refusal}
 use Rattle.connection_ports.specs.Laws.{other}
@@ -24,10 +23,6 @@ use Rattle.history_run.specs.Made.{Acts, Held, held, next, told, events}
 -- a port, and then the other, created over a storage
 abbrev pub opened : Port → Settings → ℕ → Condition → List ℕ → State
 opened first s state condition words = created (other first) s state (created first s state (state_of condition words []))
-
--- a token of a port that is not closed yet
-abbrev pub Open : Port → PortToken → Type 0
-Open p token = (token.port ≡ p) × (token.spent ≡ false)
 
 -- both ports were created over an absent storage
 pub record Opened (first : Port) (s : Settings) (state : ℕ) (condition : Condition) (words : List ℕ) : Type 0 where

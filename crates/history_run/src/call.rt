@@ -2,7 +2,7 @@ use blocking_send::BackpressureToReceiverAction;
 use shm_allocator::PointerOffset;
 
 /// A call of a history, with its arguments.
-#[derive(Clone, Copy, Debug, PartialEq, Eq)]
+#[derive(Clone, Copy, Debug, PartialEq, Eq, Drop)]
 pub enum Call<P> {
     Send {
         value: PointerOffset,

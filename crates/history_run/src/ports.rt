@@ -4,7 +4,8 @@ ghost use Rattle.connection_words.specs.Settings.{raised};
 ghost use Rattle.connection_ports.specs.declared.port.Port.TheVariants as port;
 ghost use Rattle.connection_ports.specs.Numbers.{creation_number, refused_by};
 ghost use Rattle.connection_ports.specs.Creation.{creation_refusal};
-ghost use Rattle.history_run.specs.Ran.{OpenedTo, Open};
+ghost use Rattle.connection_ports.specs.Tokens.{Open};
+ghost use Rattle.history_run.specs.Ran.{OpenedTo};
 
 use crate::Ports;
 use connection_ports::{BorrowCounters, Builder, Port, ZeroCopyCreationError};

@@ -2,7 +2,8 @@ ghost use Rattle.std.specs.Prelude.{◌≡◌, ◌≤◌, [], length, replicate,
 ghost use Rattle.connection_ports.specs.declared.port.Port.TheVariants as port;
 ghost use Rattle.history_run.specs.Course.{Course};
 ghost use Rattle.history_run.specs.Made.{held_in, next, told};
-ghost use Rattle.history_run.specs.Ran.{Open, Ran, Unmade};
+ghost use Rattle.connection_ports.specs.Tokens.{Open};
+ghost use Rattle.history_run.specs.Ran.{Ran, Unmade};
 
 use crate::performing::perform;
 use crate::ports::create_ports;

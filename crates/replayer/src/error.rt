@@ -16,6 +16,8 @@ pub enum ReplayError {
     Output(io::Error),
 }
 
+// From by hand, since a derived one states no from_gives.
+
 impl From<ScriptError> for ReplayError {
     ghost from_gives = { λ cause error. error ≡ Script cause };
 

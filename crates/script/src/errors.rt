@@ -8,6 +8,8 @@ use std::alloc::AllocFailed;
 use std::error::Error;
 use std::fmt;
 
+// By hand, since the texts are proved.
+
 impl fmt::Display for Expected {
     ghost output = { λ expected. Some (expected_text expected) };
 

@@ -1,6 +1,6 @@
 ghost use Rattle.std.specs.Prelude.{◌≡◌};
 
-use crate::performing::{perform_on, yes_or_no};
+use crate::performing::{perform_on, value_or_none, yes_or_no};
 use crate::{Answer, Refusal};
 use connection_ports::{BorrowCounters, Builder, ChannelState, Port, PortToken, close};
 use connection_words::Settings;
@@ -24,10 +24,6 @@ fn retire(held: Option<PortToken>) {
         let mut nowhere = ProcessLocal::new();
         let _ = close(&mut nowhere, token);
     }
-}
-
-fn value_or_none(value: Option<u64>) -> Answer {
-    value.map_or(Answer::None, Answer::Value)
 }
 
 fn pointer_offset(offset: u64, segment: u8) -> PointerOffset {
@@ -78,6 +74,7 @@ impl Session {
             .unwrap_or_else(Answer::Refused)
     }
 
+    // By port held, then by channel, then on the storage alone: three matches, so that each call is told of once.
     fn try_perform<S: DynamicStorage>(
         &mut self,
         storage: &mut S,

@@ -1,5 +1,5 @@
 ghost use Rattle.std.specs.Prelude.{◌≡◌, ℕ, IfOk};
-ghost use Rattle.session.specs.Answers.{answered, words_after, condition_after, yes_or_no};
+ghost use Rattle.session.specs.Answers.{answered, words_after, condition_after, yes_or_no, value_or_none};
 
 use crate::Answer;
 use dynamic_storage::DynamicStorage;
@@ -11,6 +11,12 @@ pub(crate) fn yes_or_no(yes: bool) -> Answer
     ensures { result ≡ yes_or_no yes }
 {
     if yes { Answer::Yes } else { Answer::No }
+}
+
+pub(crate) fn value_or_none(value: Option<u64>) -> Answer
+    ensures { result ≡ value_or_none value }
+{
+    value.map_or(Answer::None, Answer::Value)
 }
 
 /// Performs a call on the storage alone. A `Code` is for the backing below it and a call on a port or a channel for a
@@ -25,10 +31,7 @@ pub fn perform_on<S: DynamicStorage>(storage: &mut S, call: Call) -> Answer
         Call::Condition => Answer::Shows(storage.condition()),
         Call::Length => Answer::Count(storage.len()),
         Call::Words => Answer::List,
-        Call::Read(place) => match storage.read(place) {
-            Some(word) => Answer::Value(word),
-            None => Answer::None,
-        },
+        Call::Read(place) => value_or_none(storage.read(place)),
         Call::Write(place, word) => yes_or_no(storage.write(place, word)),
         Call::SetCondition(to) => yes_or_no(storage.set_condition(to)),
         Call::Code(_)

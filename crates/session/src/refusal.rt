@@ -1,5 +1,5 @@
-ghost use Rattle.std.specs.Prelude.{◌≡◌};
-ghost use Rattle.session.specs.Refusals.{refusal_number};
+ghost use Rattle.std.specs.Prelude.{◌≡◌, Some};
+ghost use Rattle.session.specs.Refusals.{refusal_number, refusal_text};
 ghost use Rattle.session.specs.declared.refusal.Refusal.TheVariants.{State, Creation, Close, Send, Receive, Release, Reclaim, Channel};
 
 use connection_ports::{ChannelStateNewError, Numbered, PortCloseError, ZeroCopyCreationError};
@@ -41,6 +41,8 @@ impl Numbered for Refusal {
 }
 
 impl fmt::Display for Refusal {
+    ghost output = { λ refusal. Some (refusal_text refusal) };
+
     fn fmt<W: fmt::Write>(&self, f: &mut fmt::Formatter<W>) -> fmt::Result {
         let number = self.number();
         write!(f, "{number} {}", answers::name(number))
@@ -49,11 +51,13 @@ impl fmt::Display for Refusal {
 
 impl Error for Refusal {}
 
+// From by hand, since a derived one states no from_gives.
+
 impl From<ChannelStateNewError> for Refusal {
     ghost from_gives = { λ error refusal. refusal ≡ State error };
 
     fn from(error: ChannelStateNewError) -> Refusal {
-        Refusal::State(error)
+        Self::State(error)
     }
 }
 
@@ -61,7 +65,7 @@ impl From<ZeroCopyCreationError> for Refusal {
     ghost from_gives = { λ error refusal. refusal ≡ Creation error };
 
     fn from(error: ZeroCopyCreationError) -> Refusal {
-        Refusal::Creation(error)
+        Self::Creation(error)
     }
 }
 
@@ -69,7 +73,7 @@ impl From<PortCloseError> for Refusal {
     ghost from_gives = { λ error refusal. refusal ≡ Close error };
 
     fn from(error: PortCloseError) -> Refusal {
-        Refusal::Close(error)
+        Self::Close(error)
     }
 }
 
@@ -77,7 +81,7 @@ impl From<ZeroCopySendError> for Refusal {
     ghost from_gives = { λ error refusal. refusal ≡ Send error };
 
     fn from(error: ZeroCopySendError) -> Refusal {
-        Refusal::Send(error)
+        Self::Send(error)
     }
 }
 
@@ -85,7 +89,7 @@ impl From<ZeroCopyReceiveError> for Refusal {
     ghost from_gives = { λ error refusal. refusal ≡ Receive error };
 
     fn from(error: ZeroCopyReceiveError) -> Refusal {
-        Refusal::Receive(error)
+        Self::Receive(error)
     }
 }
 
@@ -93,7 +97,7 @@ impl From<ZeroCopyReleaseError> for Refusal {
     ghost from_gives = { λ error refusal. refusal ≡ Release error };
 
     fn from(error: ZeroCopyReleaseError) -> Refusal {
-        Refusal::Release(error)
+        Self::Release(error)
     }
 }
 
@@ -101,7 +105,7 @@ impl From<ZeroCopyReclaimError> for Refusal {
     ghost from_gives = { λ error refusal. refusal ≡ Reclaim error };
 
     fn from(error: ZeroCopyReclaimError) -> Refusal {
-        Refusal::Reclaim(error)
+        Self::Reclaim(error)
     }
 }
 
@@ -109,6 +113,6 @@ impl From<ChannelError> for Refusal {
     ghost from_gives = { λ error refusal. refusal ≡ Channel error };
 
     fn from(error: ChannelError) -> Refusal {
-        Refusal::Channel(error)
+        Self::Channel(error)
     }
 }

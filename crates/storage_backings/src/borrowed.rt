@@ -52,6 +52,15 @@ impl<M: WordMemory> Borrowed<M> {
     }
 }
 
+impl<T> Borrowed<&mut [T]> {
+    /// Ends the loan: the lender finds in its memory what the storage held last.
+    pub fn hand_back(self)
+        ensures { self.exit.0.now ≡ self.entry.memory.now }
+    {}
+}
+
+// Asking for and setting the condition are a line each, as in a window, whose code is a word of a storage.
+
 impl<M: WordMemory> DynamicStorage for Borrowed<M> {
     ghost condition = { λ s. stated_at (M.WordMemory.all_words s.memory) 0 };
 

@@ -32,10 +32,3 @@ impl WordMemory for &mut [u8] {
 
 /// A storage in borrowed bytes.
 pub type BorrowedBytes<'a> = Borrowed<&'a mut [u8]>;
-
-impl BorrowedBytes<'_> {
-    /// Ends the loan: the lender finds in its memory what the storage held last.
-    pub fn hand_back(self)
-        ensures { self.exit.0.now ≡ self.entry.memory.now }
-    {}
-}

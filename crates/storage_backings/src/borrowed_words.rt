@@ -28,10 +28,3 @@ impl WordMemory for &mut [u64] {
 
 /// A storage in borrowed words.
 pub type BorrowedWords<'a> = Borrowed<&'a mut [u64]>;
-
-impl BorrowedWords<'_> {
-    /// Ends the loan: the lender finds in its memory what the storage held last.
-    pub fn hand_back(self)
-        ensures { self.exit.0.now ≡ self.entry.memory.now }
-    {}
-}
