@@ -1,9 +1,10 @@
--- One turn more of the loops over channels and over words.
-use Rattle.std.proofs.Common.{◌≡◌, ℕ, zero, suc, ◌+◌, ◌-◌, ◌<◌, Bool, true, false, cond, ◌&&◌, List, [], ◌∷◌, ◌++◌, map, length, drop, set, Some, None, sym, refl, ◌∙◌, ⊎_elim, zero-add, add-one, arith}
-use Rattle.std.specs.List.{range_with_len}
+-- The walk over channels, and one turn more of the loop over words.
+use Rattle.std.proofs.Common.{◌≡◌, ℕ, zero, suc, ◌+◌, ◌-◌, ◌<◌, ◌≤◌, ltb, Bool, true, false, cond, ◌&&◌, List, [], ◌∷◌, ◌++◌, map, length, drop, set, Some, None, sym, refl, ◌∙◌, ap, zero-add, arith}
+use Rattle.std.specs.List.{range_with_len, list_all}
+use Rattle.std.proofs.lemmas.Bool.Decides.{nat_tests}
+use Rattle.std.proofs.lemmas.List.Folds.{list_all-append}
 use Rattle.std.proofs.lemmas.List.{set-append_right, drop_more, append_assoc}
 use Rattle.std.proofs.lemmas.List.FromFn.{length-map-range_with_len, map-range_with_len_more}
-use Rattle.std.proofs.lemmas.Bool.{cases_eq}
 use Rattle.connection_words.specs.declared.settings.Settings.{Settings}
 use Rattle.connection_words.specs.Queues.{channel_sound}
 use Rattle.connection_ports.specs.Creation.{queues_sound}
@@ -21,30 +22,35 @@ pub none_false : {A : Type 0} (b : Bool) (y : A) → None ≡ cond b (Some y) No
 none_false true y e = cc
 none_false false y e = refl
 
-pub one_more_sound : (words : List ℕ) (s : Settings) (n : ℕ) → queues_sound words s n ≡ true → channel_sound words s n ≡ true → queues_sound words s (n + 1) ≡ true
-one_more_sound words s n e f = rw (add-one, e, f)
+range_more : (a n : ℕ) → range_with_len a (suc n) ≡ range_with_len a n ++ (a + n) ∷ []
+range_more a zero = let same : a + 0 ≡ a = omega arith in rw same refl
+range_more a (suc n) = let same : a + 1 + n ≡ a + suc n = omega arith in ap (λ (xs : List ℕ). a ∷ xs) (rw (← same) (range_more (a + 1) n))
 
-and_false : (b c : Bool) → b ≡ false → b && c ≡ false
-and_false b c e = rw e
+-- whether there is a channel with sound queues
+abbrev pub sound_at : List ℕ → Settings → ℕ → ℕ → Bool
+sound_at words s m k = cond (ltb k m) (channel_sound words s k) false
 
-and_false_right : (b c : Bool) → c ≡ false → b && c ≡ false
-and_false_right true c e = e
-and_false_right false c e = refl
+and_true : (b c : Bool) → b && (c && true) ≡ b && c
+and_true true true = refl
+and_true true false = refl
+and_true false c = refl
 
--- one channel that is not sound is enough
-pub one_unsound : (words : List ℕ) (s : Settings) (n k : ℕ) → k < n → channel_sound words s k ≡ false → queues_sound words s n ≡ false
-one_unsound words s zero k h e = absurd (omega arith)
-one_unsound words s (suc n) k h e =
-    ⊎_elim
-    (λ (same : k ≡ n). and_false_right (queues_sound words s n) (channel_sound words s n) (rw same at e))
-    (λ (less : k ≡ n → ⊥). and_false (queues_sound words s n) (channel_sound words s n) (one_unsound words s n k (omega arith) e))
-    (cases_eq k n)
+pub sound_below : (words : List ℕ) (s : Settings) (m n : ℕ) → n ≤ m → list_all (sound_at words s m) (range_with_len 0 n) ≡ queues_sound words s n
+sound_below words s m zero h = refl
+sound_below words s m (suc n) h =
+    let there : ltb n m ≡ true = grind (arith, nat_tests) in
+    let last : sound_at words s m n ≡ channel_sound words s n = rw there refl in
+    let first : 0 + n ≡ n = omega arith in
+    let t : ℕ → Bool = sound_at words s m in
+    let below : list_all t (range_with_len 0 n) ≡ queues_sound words s n = sound_below words s m n (omega arith) in
+    let here : list_all t ((0 + n) ∷ []) ≡ channel_sound words s n && true = ap (λ (k : ℕ). t k && true) first ∙ ap (λ (b : Bool). b && true) last in
+    ap (list_all t) (range_more 0 n)
+    ∙ (list_all-append t (range_with_len 0 n) ((0 + n) ∷ [])
+    ∙ (ap (λ (b : Bool). b && list_all t ((0 + n) ∷ [])) below
+    ∙ (ap (λ (b : Bool). queues_sound words s n && b) here ∙ and_true (queues_sound words s n) (channel_sound words s n))))
 
 drop_first : (words : List ℕ) (i w : ℕ) → i < length words → set (drop i words) 0 w ≡ w ∷ drop (i + 1) words
 drop_first words i w h = rw (drop_more words i 0 h)
-
-pub unsound_channel : (words : List ℕ) (s t : Settings) (n k j : ℕ) → t ≡ s → j ≡ k → k < n → false ≡ channel_sound words t j → false ≡ queues_sound words s n
-unsound_channel words s t n k j e f h bad = sym (one_unsound words s n k h (rw (← e, ← f) (sym bad)))
 
 -- the word at i is written where those below it are
 pub one_more_word : (f : ℕ → ℕ) (words now next : List ℕ) (i : ℕ) → i < length words → now ≡ map f (range_with_len 0 i) ++ drop i words → next ≡ set now i (f i) → next ≡ map f (range_with_len 0 (i + 1)) ++ drop (i + 1) words
