@@ -148,6 +148,7 @@ impl Lists {
 }
 
 /// The lists of a channel after calls with these answers.
+// Two lists: the calls are the caller's, and the answers those of a run.
 fn tally<P>(
     heap: Global,
     calls: &[Call<P>],

@@ -9,6 +9,8 @@ use crate::performing::answer_to_send;
 use blocking_send::{BackpressurePolicy, Step, Waiting};
 use dynamic_storage::DynamicStorage;
 
+// A slot is found by its index: after `get_mut` the clause on the slots that are left stays open.
+
 /// Takes a pending send out of its slot.
 fn take_at(waits: &mut [Option<Waiting>], id: usize) -> Option<Waiting>
     ensures leaves { views waits.new ≡ slice_set (views waits.old) id None }

@@ -6,6 +6,7 @@ use std::io;
 use thiserror::Error;
 
 /// Why a script did not run to its end.
+// No ==, since io::Error has none.
 #[derive(Debug, Drop, Error)]
 pub enum ReplayError {
     /// A line is not understood, or there is no memory to hold the script.
