@@ -3,6 +3,8 @@ ghost use Rattle.connection_ports.specs.Numbers.{refused_by, state_number};
 
 use crate::ChannelStateNewError;
 
+// A number, as the words state it, in which the largest is closed: the Rust has it so.
+
 /// The state of a channel: closed, or a number up to 2^62 that its ports give a meaning to, 0 for open.
 #[derive(Clone, Copy, Debug, PartialEq, Eq)]
 pub struct ChannelState(u64);

@@ -17,9 +17,6 @@ use crate::{
 use connection_words::{Layout, PortState, Settings, put, word};
 use dynamic_storage::{Condition, DynamicStorage, Stage};
 
-// No refusal of the private functions below carries a fault. An error type that says so would be a second one beside the
-// Rust's, with eleven of its cases.
-
 /// How a storage is entered, or its fault.
 fn entry_of(condition: Condition) -> Result<Entry, DynamicStorageOpenError>
     ensures { result ≡ entry_of condition }
@@ -32,6 +29,9 @@ fn entry_of(condition: Condition) -> Result<Entry, DynamicStorageOpenError>
         Condition::OtherVersion => Err(DynamicStorageOpenError::VersionMismatch),
     }
 }
+
+// No refusal of the private functions below carries a fault. An error type that says so would be a second one beside the
+// Rust's, with eleven of its cases.
 
 /// Refuses settings that differ from those of the connection.
 fn compare(asked: Settings, found: Settings) -> Result<(), ZeroCopyCreationError>

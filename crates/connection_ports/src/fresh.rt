@@ -23,7 +23,7 @@ impl Fresh {
         ensures { result ≡ body_word self.now.layout.settings self.now.state.0 place }
     {
         let settings = self.layout.settings();
-        let stride = 5 + settings.buffer_size + self.layout.completions();
+        let stride = self.layout.stride();
         if place < 8 + settings.number_of_channels * stride && (place - 8) % stride == 0 {
             self.state.value()
         } else {

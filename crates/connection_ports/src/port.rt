@@ -8,6 +8,7 @@ pub enum Port {
 }
 
 /// How a storage is entered.
+// An answer of its own, so that the fault of a storage that is not entered goes up by `?`.
 #[derive(Clone, Copy, Debug, PartialEq, Eq)]
 pub(crate) enum Entry {
     /// Nobody has used it yet.
@@ -18,7 +19,7 @@ pub(crate) enum Entry {
 
 /// What a creation hands out: the right and the duty to close a port. It holds no storage, and it can be let go only once
 /// it was closed.
-// The flag stays: a type that is no Drop could not be let go either, but only what a drop requires says what is owed.
+// The flag is what a drop requires; of a type that is no Drop nothing would say what is owed.
 #[derive(Debug, PartialEq, Eq)]
 pub struct PortToken {
     pub(crate) port: Port,

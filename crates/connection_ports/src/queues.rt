@@ -29,9 +29,5 @@ pub(crate) fn whole_layout_of<S: DynamicStorage>(storage: &S) -> Option<Layout>
     ensures { option_map (λ layout. layout.settings) result ≡ (if whole (S.DynamicStorage.condition storage.now) (S.DynamicStorage.words storage.now) then Some (settings_of (S.DynamicStorage.words storage.now)) else None) }
 {
     let layout = layout_of(storage)?;
-    if are_queues_sound(storage, &layout) {
-        Some(layout)
-    } else {
-        None
-    }
+    are_queues_sound(storage, &layout).then_some(layout)
 }

@@ -1,7 +1,7 @@
 ghost use Rattle.std.specs.Prelude.{◌≡◌, ◌≤◌, ◌||◌, if◌then◌else◌, Some, None, nat_lt};
 ghost use Rattle.std.specs.Option.{option_map};
 ghost use Rattle.connection_words.specs.Settings.{Limits, too_small, too_large, channels, completions};
-ghost use Rattle.connection_words.specs.Places.{channel_at, detail_at, needed};
+ghost use Rattle.connection_words.specs.Places.{stride, channel_at, detail_at, needed};
 
 use crate::{Channel, Settings};
 
@@ -37,13 +37,20 @@ impl Layout {
         settings.buffer_size + settings.max_borrowed_samples_per_channel + 1
     }
 
+    /// How many words a channel takes.
+    pub fn stride(&self) -> u64
+        ensures { result ≡ stride self.now.settings }
+    {
+        5 + self.settings.buffer_size + self.completions()
+    }
+
     /// Where a channel begins; at the number of channels, where the channels end.
     pub(crate) fn channel_place(&self, index: u64) -> u64
         requires { index ≤ 64 }
         ensures place { result ≡ channel_at self.now.settings index }
         ensures small { result ≤ 197000 }
     {
-        8 + index * (5 + self.settings.buffer_size + self.completions())
+        8 + index * self.stride()
     }
 
     /// Where the detail of a channel and a segment begins.

@@ -11,6 +11,7 @@ use dynamic_storage::DynamicStorage;
 use zero_copy_connection::{borrow_count, has_data, receive, reclaim, release, try_send};
 
 /// What a call on a channel gives where it is not refused.
+// A trait of its own, and not From: the contract of `answer_to` names what is given.
 trait Given {
     ghost given: { Self → calls.Answer };
 

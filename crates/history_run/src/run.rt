@@ -15,6 +15,7 @@ pub struct Ports {
 pub struct Run {
     pub ports: Ports,
     /// The sends that are still pending, by their slots.
+    // By number, since a call of a history names a send by its slot.
     pub waits: Vec<Option<Waiting>>,
     /// What the calls answered, in order.
     pub answers: Vec<Answer>,

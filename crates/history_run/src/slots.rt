@@ -9,7 +9,7 @@ use crate::performing::answer_to_send;
 use blocking_send::{BackpressurePolicy, Step, Waiting};
 use dynamic_storage::DynamicStorage;
 
-// A slot is found by its index: after `get_mut` the clause on the slots that are left stays open.
+// A slot is found by its index: after `get_mut` nothing would be proved of the slots that are left.
 
 /// Takes a pending send out of its slot.
 fn take_at(waits: &mut [Option<Waiting>], id: usize) -> Option<Waiting>

@@ -7,7 +7,7 @@ use crate::error::ReplayError;
 use crate::layers::{CloseAll, Perform, visit_through};
 use script::call::{Backing, Call};
 use script::scripts::{Script, parse_script};
-use session::Session;
+use session::{Answer, Session};
 use std::io;
 use std::io::Read;
 use storage_backings::{BorrowedBytes, BorrowedWords, ProcessLocal};
@@ -34,7 +34,7 @@ pub fn replay(rt: &HostRuntime, text: &[u8]) -> Result<(), ReplayError>
     Ok(())
 }
 
-// An arm for each type of lent memory: a bound on every loan of a slice, `for<'a> &'a mut [T]: WordMemory`, gets no proof yet.
+// An arm for each type of lent memory: a bound on every loan of a slice, `for<'a> &'a mut [T]: WordMemory`, cannot be stated yet.
 fn run(rt: &HostRuntime, script: &Script) -> io::Result<()> {
     match script.pile.backing {
         Backing::Words(count) => {
@@ -64,8 +64,8 @@ fn run_calls<B: Spoiled + Drop>(
 ) -> io::Result<()> {
     for call in &script.calls {
         if let Call::Code(code) = *call {
-            let written = backing.spoil(code);
-            println!(rt; "{}", if written { "yes" } else { "no" })?;
+            let written = Answer::from(backing.spoil(code));
+            println!(rt; "{written}")?;
         } else {
             let perform = Perform {
                 rt,

@@ -23,6 +23,7 @@ pub struct Pile {
     pub backing: Backing,
     pub lower: Option<Frame>,
     /// Whether the bytes of each word are reversed, between the two windows.
+    // A layer without a value, there or not.
     pub swapped: bool,
     pub upper: Option<Frame>,
 }

@@ -6,7 +6,7 @@ use crate::arguments::{next_argument, one, two};
 use crate::call::{Call, Expected};
 use crate::words::Words;
 
-// Apart from the line of a release: what they share is two lines, and a helper would take a closure of its own for each.
+// The two lines that it shares with a release are no function, which would need a definition of its own.
 
 // The rest of a line that sends a value.
 fn send_call(words: &mut Words<'_>) -> Result<Call, Expected>

@@ -1,12 +1,11 @@
 ghost use Rattle.std.specs.Prelude.{◌≡◌};
 
-use crate::performing::{perform_on, value_or_none, yes_or_no};
+use crate::performing::{perform_on, pointer_offset};
 use crate::{Answer, Refusal};
 use connection_ports::{BorrowCounters, Builder, ChannelState, Port, PortToken, close};
 use connection_words::Settings;
 use dynamic_storage::DynamicStorage;
 use script::call::{Call, StateWord};
-use shm_allocator::{PointerOffset, SegmentId};
 use storage_backings::ProcessLocal;
 use zero_copy_connection::{borrow_count, has_data, receive, reclaim, release, try_send};
 
@@ -15,6 +14,7 @@ pub struct Session {
     builder: Builder,
     sender: Option<PortToken>,
     receiver: Option<PortToken>,
+    // Beside the receiver's token, so that both tokens are held alike.
     counters: BorrowCounters,
 }
 
@@ -24,10 +24,6 @@ fn retire(held: Option<PortToken>) {
         let mut nowhere = ProcessLocal::new();
         let _ = close(&mut nowhere, token);
     }
-}
-
-fn pointer_offset(offset: u64, segment: u8) -> PointerOffset {
-    PointerOffset::from_offset_and_segment_id(offset, SegmentId::new(segment))
 }
 
 impl Default for Session {
@@ -74,7 +70,7 @@ impl Session {
             .unwrap_or_else(Answer::Refused)
     }
 
-    // By port held, then by channel, then on the storage alone: three matches, so that each call is told of once.
+    // Whether the port is held is asked before the calls on a channel; `perform_on` is public, and serves what needs no port.
     fn try_perform<S: DynamicStorage>(
         &mut self,
         storage: &mut S,
@@ -117,17 +113,17 @@ impl Session {
                 let evicted = try_send(storage, value, size, channel)?;
                 Ok(evicted.map_or(Answer::Ok, Answer::Evicted))
             }
-            Call::Reclaim(channel) => Ok(value_or_none(reclaim(storage, channel)?)),
+            Call::Reclaim(channel) => Ok(reclaim(storage, channel)?.into()),
             Call::Receive(channel) => {
                 let value = receive(storage, &mut self.counters, channel)?;
-                Ok(value_or_none(value))
+                Ok(value.into())
             }
             Call::Release(offset, segment, channel) => {
                 let value = pointer_offset(offset, segment);
                 release(storage, &mut self.counters, value, channel)?;
                 Ok(Answer::Ok)
             }
-            Call::HasData(channel) => Ok(yes_or_no(has_data(storage, channel)?)),
+            Call::HasData(channel) => Ok(has_data(storage, channel)?.into()),
             Call::BorrowCount(channel) => {
                 let count = borrow_count(storage, &self.counters, channel)?;
                 Ok(Answer::Count(count))

@@ -1,4 +1,5 @@
 ghost use Rattle.std.specs.Prelude.{◌≡◌, ℕ, IfOk};
+ghost use Rattle.shm_allocator.specs.Offsets.{value_of};
 ghost use Rattle.session.specs.Answers.{answered, words_after, condition_after, yes_or_no, value_or_none};
 
 use crate::Answer;
@@ -7,16 +8,26 @@ use script::call::Call;
 use shm_allocator::{PointerOffset, SegmentId};
 use std::alloc::{AllocError, Global};
 
-pub(crate) fn yes_or_no(yes: bool) -> Answer
-    ensures { result ≡ yes_or_no yes }
-{
-    if yes { Answer::Yes } else { Answer::No }
+impl From<bool> for Answer {
+    ghost from_gives = { λ yes answer. answer ≡ yes_or_no yes };
+
+    fn from(yes: bool) -> Answer {
+        if yes { Answer::Yes } else { Answer::No }
+    }
 }
 
-pub(crate) fn value_or_none(value: Option<u64>) -> Answer
-    ensures { result ≡ value_or_none value }
+impl From<Option<u64>> for Answer {
+    ghost from_gives = { λ value answer. answer ≡ value_or_none value };
+
+    fn from(value: Option<u64>) -> Answer {
+        value.map_or(Answer::None, Answer::Value)
+    }
+}
+
+pub(crate) fn pointer_offset(offset: u64, segment: u8) -> PointerOffset
+    ensures { result.0 ≡ value_of offset segment }
 {
-    value.map_or(Answer::None, Answer::Value)
+    PointerOffset::from_offset_and_segment_id(offset, SegmentId::new(segment))
 }
 
 /// Performs a call on the storage alone. A `Code` is for the backing below it and a call on a port or a channel for a
@@ -31,9 +42,9 @@ pub fn perform_on<S: DynamicStorage>(storage: &mut S, call: Call) -> Answer
         Call::Condition => Answer::Shows(storage.condition()),
         Call::Length => Answer::Count(storage.len()),
         Call::Words => Answer::List,
-        Call::Read(place) => value_or_none(storage.read(place)),
-        Call::Write(place, word) => yes_or_no(storage.write(place, word)),
-        Call::SetCondition(to) => yes_or_no(storage.set_condition(to)),
+        Call::Read(place) => storage.read(place).into(),
+        Call::Write(place, word) => storage.write(place, word).into(),
+        Call::SetCondition(to) => storage.set_condition(to).into(),
         Call::Code(_)
         | Call::Settings(_, _)
         | Call::Create(_)
@@ -50,8 +61,7 @@ pub fn perform_on<S: DynamicStorage>(storage: &mut S, call: Call) -> Answer
             Answer::Place { segment, offset }
         }
         Call::Value(offset, segment) => {
-            let place = PointerOffset::from_offset_and_segment_id(offset, SegmentId::new(segment));
-            Answer::Value(place.as_value())
+            Answer::Value(pointer_offset(offset, segment).as_value())
         }
     }
 }

@@ -12,17 +12,15 @@ fn refused(rt: &HostRuntime, text: &[u8]) -> Result<(u64, Expected), Fail> {
 
 #[test]
 fn garbage(rt: HostRuntime) -> Result<(), Fail> {
-    assert!(rt; matches!(refused(&rt, b"\xff\x00")?, (1, Expected::Keyword)));
-    assert!(rt;
-        matches!(
-            refused(&rt, b"read 1\n\n  raed 2\n")?,
-            (3, Expected::Keyword)
-        )
+    assert_eq!(rt; refused(&rt, b"\xff\x00")?, (1, Expected::Keyword));
+    assert_eq!(rt;
+        refused(&rt, b"read 1\n\n  raed 2\n")?,
+        (3, Expected::Keyword)
     );
-    assert!(rt; matches!(refused(&rt, b"# only this\nread")?, (2, Expected::Number)));
-    assert!(rt; matches!(refused(&rt, b"read 1 2")?, (1, Expected::End)));
-    assert!(rt; matches!(refused(&rt, b"read -1")?, (1, Expected::Number)));
-    assert!(rt; matches!(refused(&rt, b"read +1")?, (1, Expected::Number)));
+    assert_eq!(rt; refused(&rt, b"# only this\nread")?, (2, Expected::Number));
+    assert_eq!(rt; refused(&rt, b"read 1 2")?, (1, Expected::End));
+    assert_eq!(rt; refused(&rt, b"read -1")?, (1, Expected::Number));
+    assert_eq!(rt; refused(&rt, b"read +1")?, (1, Expected::Number));
     Ok(())
 }
 
@@ -30,45 +28,38 @@ fn garbage(rt: HostRuntime) -> Result<(), Fail> {
 fn numbers(rt: HostRuntime) -> Result<(), Fail> {
     assert!(rt; parse_script(rt.alloc(), b"read 18446744073709551615").is_ok());
     assert!(rt; parse_script(rt.alloc(), b"read 0000000000000000000000000001").is_ok());
-    assert!(rt;
-        matches!(
-            refused(&rt, b"read 18446744073709551616")?,
-            (1, Expected::Number)
-        )
+    assert_eq!(rt;
+        refused(&rt, b"read 18446744073709551616")?,
+        (1, Expected::Number)
     );
-    assert!(rt;
-        matches!(
-            refused(&rt, b"read 99999999999999999999999")?,
-            (1, Expected::Number)
-        )
+    assert_eq!(rt;
+        refused(&rt, b"read 99999999999999999999999")?,
+        (1, Expected::Number)
     );
-    assert!(rt; matches!(refused(&rt, b"value 1 256")?, (1, Expected::Segment)));
+    assert_eq!(rt; refused(&rt, b"value 1 256")?, (1, Expected::Segment));
     Ok(())
 }
 
 #[test]
 fn storages(rt: HostRuntime) -> Result<(), Fail> {
     assert!(rt; parse_script(rt.alloc(), b"storage inner window 1 2 swapped window 3 4").is_ok());
-    assert!(rt;
-        matches!(
-            refused(&rt, b"length\nstorage inner")?,
-            (2, Expected::StorageFirst)
-        )
+    assert_eq!(rt;
+        refused(&rt, b"length\nstorage inner")?,
+        (2, Expected::StorageFirst)
     );
-    assert!(rt;
-        matches!(
-            refused(&rt, b"storage inner\ncode 2")?,
-            (2, Expected::CodeNeedsMemory)
-        )
+    assert_eq!(rt;
+        refused(&rt, b"storage inner\ncode 2")?,
+        (2, Expected::CodeNeedsMemory)
     );
-    assert!(rt; matches!(refused(&rt, b"storage words")?, (1, Expected::Number)));
-    assert!(rt; matches!(refused(&rt, b"storage paper 3")?, (1, Expected::Backing)));
-    assert!(rt;
-        matches!(
-            refused(&rt, b"storage inner swapped swapped")?,
-            (1, Expected::Layer)
-        )
+    assert_eq!(rt; refused(&rt, b"storage words")?, (1, Expected::Number));
+    assert_eq!(rt; refused(&rt, b"storage paper 3")?, (1, Expected::Backing));
+    assert_eq!(rt;
+        refused(&rt, b"storage inner swapped swapped")?,
+        (1, Expected::Layer)
     );
-    assert!(rt; matches!(refused(&rt, b"set_condition broken")?, (1, Expected::Stage)));
+    assert_eq!(rt;
+        refused(&rt, b"set_condition broken")?,
+        (1, Expected::Stage)
+    );
     Ok(())
 }

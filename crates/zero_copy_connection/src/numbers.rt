@@ -71,6 +71,8 @@ impl Numbered for ZeroCopyReclaimError {
     }
 }
 
+// One for each error: a blanket impl over them would overlap with that of core.
+
 impl From<ChannelError> for ZeroCopySendError {
     ghost from_gives = { λ refusal error. send_number error ≡ channel_number refusal };
 

@@ -86,7 +86,7 @@ fn record_chunk<S: DynamicStorage>(storage: &mut S, places: ChunkPlaces, sample_
     ensures { WordsBecome S.DynamicStorage storage.old storage.new (slice_set (slice_set (S.DynamicStorage.words storage.old) places.size sample_size) places.mark 1) }
 {
     put(storage, places.size, sample_size);
-    put(storage, places.mark, Mark::Used.word());
+    put(storage, places.mark, u64::from(Mark::Used));
 }
 
 /// Puts a value behind those that wait, and answers the oldest if it had to leave.

@@ -7,25 +7,25 @@ use crate::mark::Mark;
 use connection_words::{Channel, chunk_mark, put, word};
 use dynamic_storage::DynamicStorage;
 
-impl Mark {
-    /// The word that stands for the mark.
-    pub(crate) fn word(self) -> u64
-        ensures { result ≡ mark_word self }
-    {
-        match self {
+/// The word that is written for a mark.
+impl From<Mark> for u64 {
+    ghost from_gives = { λ mark word. word ≡ mark_word mark };
+
+    fn from(mark: Mark) -> u64 {
+        match mark {
             Mark::Free => 0,
             Mark::Used => 1,
         }
     }
+}
 
+impl Mark {
     /// Whether a word is this mark.
+    // No From<u64>: what a mark says is asked of the mark that is expected.
     pub(crate) fn is_stated_by(self, word: u64) -> bool
         ensures { result ≡ is_mark self word }
     {
-        match self {
-            Mark::Free => word == 0,
-            Mark::Used => word != 0,
-        }
+        (word != 0) == (self == Mark::Used)
     }
 }
 
@@ -46,6 +46,6 @@ pub(crate) fn change_mark<S: DynamicStorage>(
     if !from.is_stated_by(word(storage, place)) {
         return false;
     }
-    put(storage, place, to.word());
+    put(storage, place, u64::from(to));
     true
 }

@@ -6,10 +6,6 @@ pub returns-in_err-layout : goal.returns-in_err-layout
 unfolding whole
 returns-in_err-layout g c = search rules
 
-pub returns-then-are_queues_sound : goal.returns-then-are_queues_sound
+pub returns : goal.returns
 unfolding whole
-returns-then-are_queues_sound g c = search rules
-
-pub returns-else-are_queues_sound : goal.returns-else-are_queues_sound
-unfolding whole
-returns-else-are_queues_sound g c = search rules
+returns g c = search rules

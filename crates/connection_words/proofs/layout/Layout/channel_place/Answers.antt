@@ -8,5 +8,5 @@ unfolding channel_at
 returns c =
     let s = c.args.self.now.settings in
     let few = strides_few s c.args.self.now.limits c.args.index c.requires in
-    let same : c.args.index * (5 + s.buffer_size + c.completions.result) ≡ c.args.index * stride s = cc in
+    let same : c.args.index * c.stride.result ≡ c.args.index * stride s = cc in
     record { place = cc; small = omega arith }
