@@ -141,7 +141,7 @@ fn deliver<S: DynamicStorage>(
     free_evicted(storage, channel, oldest)
 }
 
-// The three arguments are those of the Rust, under its names.
+// The three arguments are those of the Rust.
 
 /// Sends a value on a channel, and answers the value that it evicted from a full buffer.
 pub fn try_send<S: DynamicStorage>(
