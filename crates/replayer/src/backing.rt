@@ -7,7 +7,7 @@ pub trait Spoiled: DynamicStorage {
     fn spoil(&mut self, code: u64) -> bool;
 }
 
-impl<M: WordMemory> Spoiled for Borrowed<M> {
+impl<T: WordMemory> Spoiled for Borrowed<'_, T> {
     fn spoil(&mut self, code: u64) -> bool {
         self.write_code(code)
     }

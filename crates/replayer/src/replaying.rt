@@ -34,7 +34,7 @@ pub fn replay(rt: &HostRuntime, text: &[u8]) -> Result<(), ReplayError>
     Ok(())
 }
 
-// An arm for each type of lent memory: a bound on every loan of a slice, `for<'a> &'a mut [T]: WordMemory`, cannot be stated yet.
+// An arm for each type of lent memory, which names its own zero.
 fn run(rt: &HostRuntime, script: &Script) -> io::Result<()> {
     match script.pile.backing {
         Backing::Words(count) => {

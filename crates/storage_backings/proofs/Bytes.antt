@@ -13,7 +13,7 @@ pub length_words : (bytes : List ℕ) → length (words_in bytes) ≡ length byt
 unfolding words_in
 length_words bytes = length-map-range_with_len (λ k. little_at bytes (8 * k)) 0 (length bytes / 8)
 
-word_is : (bytes : List ℕ) (k : ℕ) → k < length bytes / 8 → get_or (words_in bytes) k 0 ≡ little_at bytes (8 * k)
+pub word_is : (bytes : List ℕ) (k : ℕ) → k < length bytes / 8 → get_or (words_in bytes) k 0 ≡ little_at bytes (8 * k)
 unfolding words_in
 word_is bytes k h = get_or-map-range_with_len (λ k. little_at bytes (8 * k)) 0 (length bytes / 8) k k 0 h (omega arith)
 
@@ -40,30 +40,30 @@ module _ (a k : ℕ) (xs ys : List ℕ) (inner : a + k ≤ length xs) (eight : l
   abbrev after : List ℕ
   after = put_mid a k xs ys
 
-  length_after : length after ≡ length xs
+  pub length_after : length after ≡ length xs
   length_after = let le : a ≤ length xs = omega arith in search (rules, places)
 
-  get_d_before : (i : ℕ) → i < a → get_or after i 0 ≡ get_or xs i 0
+  pub get_d_before : (i : ℕ) → i < a → get_or after i 0 ≡ get_or xs i 0
   get_d_before i h = grind (arith, places)
 
-  get_d_here : (i : ℕ) → i < k → get_or after (a + i) 0 ≡ get_or ys i 0
+  pub get_d_here : (i : ℕ) → i < k → get_or after (a + i) 0 ≡ get_or ys i 0
   get_d_here i h = grind (arith, places)
 
-  get_d_behind : (i : ℕ) → a + k ≤ i → get_or after i 0 ≡ get_or xs i 0
+  pub get_d_behind : (i : ℕ) → a + k ≤ i → get_or after i 0 ≡ get_or xs i 0
   get_d_behind i h = grind (arith, places)
 
-  drop_behind : (n : ℕ) → a + k ≤ n → drop n after ≡ drop n xs
+  pub drop_behind : (n : ℕ) → a + k ≤ n → drop n after ≡ drop n xs
   drop_behind n h = drop-put_mid a k xs ys n h (omega arith) eight
 
   -- a number made of bytes of which none was written
-  little_apart : (p : ℕ) → (p + 8 ≤ a) ⊎ (a + k ≤ p) → little_at after p ≡ little_at xs p
+  pub little_apart : (p : ℕ) → (p + 8 ≤ a) ⊎ (a + k ≤ p) → little_at after p ≡ little_at xs p
   little_apart p (inl h) =
       rw (get_d_before p (omega arith), get_d_before (p + 1) (omega arith), get_d_before (p + 2) (omega arith), get_d_before (p + 3) (omega arith), get_d_before (p + 4) (omega arith), get_d_before (p + 5) (omega arith), get_d_before (p + 6) (omega arith), get_d_before (p + 7) (omega arith))
   little_apart p (inr h) =
       rw (get_d_behind p (omega arith), get_d_behind (p + 1) (omega arith), get_d_behind (p + 2) (omega arith), get_d_behind (p + 3) (omega arith), get_d_behind (p + 4) (omega arith), get_d_behind (p + 5) (omega arith), get_d_behind (p + 6) (omega arith), get_d_behind (p + 7) (omega arith))
 
   -- the number made of the bytes that were written
-  little_here : k ≡ 8 → little_at after a ≡ little_at ys 0
+  pub little_here : k ≡ 8 → little_at after a ≡ little_at ys 0
   little_here h =
       let e0 : get_or after a 0 ≡ get_or ys 0 0 = rw add-zero at (get_d_here 0 (omega arith)) in
       rw (e0, get_d_here 1 (omega arith), get_d_here 2 (omega arith), get_d_here 3 (omega arith), get_d_here 4 (omega arith), get_d_here 5 (omega arith), get_d_here 6 (omega arith), get_d_here 7 (omega arith))

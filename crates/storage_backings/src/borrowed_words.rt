@@ -1,24 +1,23 @@
-ghost use Rattle.std.specs.Prelude.{◌≡◌, [], ◌∷◌};
+ghost use Rattle.std.specs.Prelude.{[]};
 
 use crate::borrowed::{Borrowed, WordMemory};
 
-impl WordMemory for &mut [u64] {
-    ghost all_words = { λ m. m.now };
+impl WordMemory for u64 {
+    ghost all_words = { λ m. m };
 
-    ghost rest = { λ m. (m.ghost_name ∷ []) ∷ [] };
+    ghost rest = { λ _. [] };
 
-    fn count(&self) -> usize {
-        self.len()
+    fn count(memory: &[u64]) -> usize {
+        memory.len()
     }
 
-    fn load(&self, index: usize) -> Option<u64> {
-        self.get(index).copied()
+    fn load(memory: &[u64], index: usize) -> Option<u64> {
+        memory.get(index).copied()
     }
 
-    fn store(&mut self, index: usize, word: u64) -> bool {
-        // After `get_mut` nothing would be proved of what stands behind two references.
-        if index < self.len() {
-            self[index] = word;
+    fn store(memory: &mut [u64], index: usize, word: u64) -> bool {
+        if index < memory.len() {
+            memory[index] = word;
             true
         } else {
             false
@@ -27,4 +26,4 @@ impl WordMemory for &mut [u64] {
 }
 
 /// A storage in borrowed words.
-pub type BorrowedWords<'a> = Borrowed<&'a mut [u64]>;
+pub type BorrowedWords<'a> = Borrowed<'a, u64>;

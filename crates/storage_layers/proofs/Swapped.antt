@@ -17,7 +17,7 @@ bytes_below i zero n j = omega arith
 bytes_below i (suc k) n zero = byte_below i n
 bytes_below i (suc k) n (suc j) = bytes_below (suc i) k n j
 
-reversed_reversed : (word : ℕ) → word < 2 ^ 64 → reversed (reversed word) ≡ word
+pub reversed_reversed : (word : ℕ) → word < 2 ^ 64 → reversed (reversed word) ≡ word
 unfolding reversed
 reversed_reversed word fit =
     let same : to_be_bytes w64 (reversed word) ≡ to_le_bytes w64 word = be_bytes_8 (to_le_bytes w64 word) (reversed word) refl (bytes_below 0 8 word) refl in

@@ -62,7 +62,7 @@ fn codes(rt: HostRuntime) {
     assert!(rt; storage.write_code(u64::MAX));
     assert!(rt; !storage.set_condition(Stage::Ready));
     assert!(rt; storage.write(0, 6));
-    storage.hand_back();
+    drop(storage);
     assert_eq!(rt; memory, [u64::MAX, 6]);
 }
 

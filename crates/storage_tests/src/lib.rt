@@ -9,4 +9,4 @@ mod images;
 mod scripts;
 mod stamping;
 
-pub use stamping::{stamp, stamp_bytes, stamp_layers};
+pub use stamping::{stamp, stamp_bytes, stamp_layers, stamp_words};

@@ -6,7 +6,7 @@ ghost use Rattle.storage_backings.specs.Bytes.{words_in, odd_bytes};
 use dynamic_storage::{DynamicStorage, Stage};
 use script::call::Call;
 use session::perform_on;
-use storage_backings::BorrowedBytes;
+use storage_backings::{BorrowedBytes, BorrowedWords};
 use storage_layers::{ByteSwapped, Window};
 
 /// Sets a storage up with two words, and writes past its end, by the calls that the program makes.
@@ -39,4 +39,13 @@ pub fn stamp_bytes(memory: &mut [u8])
 {
     let mut bytes = BorrowedBytes::new(memory);
     stamp(&mut bytes);
+}
+
+/// What the lender of words finds, where the storage is dropped by hand: the two words behind the code.
+pub fn stamp_words(memory: &mut [u64])
+    ensures { drop 1 memory.new ≡ slice_set (slice_set (slice_set (drop 1 memory.old) 0 72623859790382856) 1 255) 18446744073709551615 7 }
+{
+    let mut words = BorrowedWords::new(memory);
+    stamp(&mut words);
+    drop(words);
 }

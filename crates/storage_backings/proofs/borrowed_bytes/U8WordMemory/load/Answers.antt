@@ -1,11 +1,11 @@
 use Rattle.std.proofs.Common.{◌<◌, ◌/◌, length, arith}
 use Rattle.std.proofs.lemmas.Bool.Decides.{nat_tests}
 use Rattle.storage_backings.proofs.Bytes.{length_words, chunk_word}
-use Rattle.storage_backings.proofs.borrowed_bytes.RefMutSliceU8WordMemory.load.Goals as goal
+use Rattle.storage_backings.proofs.borrowed_bytes.U8WordMemory.load.Goals as goal
 
 pub returns : goal.returns
 returns c =
-    let bytes = c.args.self.now.now in
+    let bytes = c.args.memory.now in
     let l = length_words bytes in
     let at = c.in_ok-get.ensures.lookup in
     let below : c.args.index < length bytes / 8 = grind (arith, nat_tests) in

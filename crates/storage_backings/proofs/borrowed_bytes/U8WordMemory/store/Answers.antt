@@ -1,6 +1,6 @@
 use Rattle.std.proofs.Common.{[], ◌∷◌, ap, ◌∙◌, arith}
 use Rattle.storage_backings.proofs.Bytes.{words_put, odd_put}
-use Rattle.storage_backings.proofs.borrowed_bytes.RefMutSliceU8WordMemory.store.Goals as goal
+use Rattle.storage_backings.proofs.borrowed_bytes.U8WordMemory.store.Goals as goal
 
 pub returns-clause-words : goal.returns-clause-words
 returns-clause-words c =
@@ -8,4 +8,4 @@ returns-clause-words c =
 
 pub returns-clause-rest : goal.returns-clause-rest
 returns-clause-rest c =
-    ap (λ odd. odd ∷ (c.args.self.now.ghost_name ∷ []) ∷ []) (odd_put _ _ _ _ _ (omega arith) (omega arith) (c.copy_from_slice.ensures.after ∙ c.to_le_bytes.ensures) (omega arith))
+    ap (λ odd. odd ∷ []) (odd_put _ _ _ _ _ (omega arith) (omega arith) (c.copy_from_slice.ensures.after ∙ c.to_le_bytes.ensures) (omega arith))
