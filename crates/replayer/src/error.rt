@@ -2,20 +2,30 @@ ghost use Rattle.std.specs.Prelude.{◌≡◌};
 ghost use Rattle.replayer.specs.declared.error.ReplayError.TheVariants.{Script, Output};
 
 use script::scripts::ScriptError;
-use std::io;
-use thiserror::Error;
+use std::error::Error;
+use std::{fmt, io};
 
 /// Why a script did not run to its end.
 // No ==, since io::Error has none.
-#[derive(Debug, Drop, Error)]
+#[derive(Debug, Drop)]
 pub enum ReplayError {
     /// A line is not understood, or there is no memory to hold the script.
-    #[error(transparent)]
     Script(ScriptError),
     /// The answers could not be printed, or there is no memory for the storage.
-    #[error(transparent)]
     Output(io::Error),
 }
+
+// By hand, so that no crate more is needed than before.
+impl fmt::Display for ReplayError {
+    fn fmt<W: fmt::Write>(&self, f: &mut fmt::Formatter<W>) -> fmt::Result {
+        match self {
+            ReplayError::Script(error) => fmt::Display::fmt(error, f),
+            ReplayError::Output(error) => fmt::Display::fmt(error, f),
+        }
+    }
+}
+
+impl Error for ReplayError {}
 
 // From by hand, since a derived one states no from_gives.
 
