@@ -71,6 +71,6 @@ pub fn list_words<S: DynamicStorage>(heap: Global, storage: &S) -> Result<Vec<u6
     ensures { IfOk result (λ v. v.items ≡ S.DynamicStorage.words storage.now) }
 {
     (0..storage.len())
-        .filter_map(|place| storage.read(place))
+        .map_while(|place| storage.read(place))
         .collect(heap)
 }
