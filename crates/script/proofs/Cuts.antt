@@ -7,7 +7,7 @@ use Rattle.script.specs.Tokens.{blank, with_word, words_after, tokens}
 
 -- ---- lines
 
-line_grows : (l xs ys : List ℕ) → All (λ b. eqb b 10 ≡ false) xs → lines_after l (xs ++ ys) ≡ lines_after (l ++ xs) ys
+pub line_grows : (l xs ys : List ℕ) → All (λ b. eqb b 10 ≡ false) xs → lines_after l (xs ++ ys) ≡ lines_after (l ++ xs) ys
 line_grows l [] ys h = ap (λ (w : List ℕ). lines_after w ys) (sym (append-nil l))
 line_grows l (b ∷ xs) ys h =
     let first : eqb b 10 ≡ false = h 0 b (omega arith) in
@@ -28,7 +28,7 @@ first_line text line after rest some whole past front back =
 no_hash : (b : ℕ) → blank b ≡ true → eqb b 35 ≡ false
 no_hash b h = grind (arith, nat_tests)
 
-skips : (xs ys : List ℕ) → All (λ b. blank b ≡ true) xs → tokens (xs ++ ys) ≡ tokens ys
+pub skips : (xs ys : List ℕ) → All (λ b. blank b ≡ true) xs → tokens (xs ++ ys) ≡ tokens ys
 skips [] ys h = refl
 skips (b ∷ xs) ys h =
     let first : blank b ≡ true = h 0 b (omega arith) in
