@@ -1,5 +1,5 @@
 use dynamic_storage::DynamicStorage;
-use storage_backings::{Borrowed, ProcessLocal, WordMemory};
+use storage_backings::{BorrowedSlice, ProcessLocal, WordElement};
 
 /// A backing whose code a script can spoil.
 pub trait Spoiled: DynamicStorage {
@@ -7,7 +7,7 @@ pub trait Spoiled: DynamicStorage {
     fn spoil(&mut self, code: u64) -> bool;
 }
 
-impl<T: WordMemory> Spoiled for Borrowed<'_, T> {
+impl<T: WordElement> Spoiled for BorrowedSlice<'_, T> {
     fn spoil(&mut self, code: u64) -> bool {
         self.write_code(code)
     }

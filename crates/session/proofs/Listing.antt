@@ -3,7 +3,7 @@ use Rattle.std.proofs.Common.{◌≡◌, ℕ, List, [], ◌∷◌, ◌++◌, len
 use Rattle.std.proofs.Math.Seq.{get_or-append_seam}
 use Rattle.std.proofs.lemmas.Bool.Decides.{nat_tests}
 use Rattle.std.proofs.lemmas.Iterator.{YieldsList}
-use Rattle.std.specs.List.{range_with_len}
+use Rattle.std.specs.List.{filter_map, range_with_len}
 use Rattle.std.specs.Option.{MatchOption, is_some, unwrap_or}
 use Rattle.std.specs.Fn.{Called}
 use Rattle.std.specs.Iterator.{AlwaysYields}
@@ -69,12 +69,29 @@ YieldsList-from_map_while {M} {S} {A} {B} {C} {F} source callee {steps} {v} {ys}
 word_after : (before : List ℕ) (word : ℕ) (rest : List ℕ) → word_at (before ++ word ∷ rest) (length before) ≡ Some word
 word_after before word rest = grind (arith, nat_tests, length-append, get_or-append_seam before word rest 0)
 
--- reading on from a place gives the words from there on
-read_on : (before rest : List ℕ) → map (word_at (before ++ rest)) (range_with_len (length before) (length rest)) ≡ map Some rest
-read_on before [] = refl
-read_on before (word ∷ rest) =
-    let on : map (word_at ((before ++ word ∷ []) ++ rest)) (range_with_len (length (before ++ word ∷ [])) (length rest)) ≡ map Some rest = read_on (before ++ word ∷ []) rest in
+-- reading on from a place gives each word from there on
+each_on : (before rest : List ℕ) → map (word_at (before ++ rest)) (range_with_len (length before) (length rest)) ≡ map Some rest
+each_on before [] = refl
+each_on before (word ∷ rest) =
+    let on : map (word_at ((before ++ word ∷ []) ++ rest)) (range_with_len (length (before ++ word ∷ [])) (length rest)) ≡ map Some rest = each_on (before ++ word ∷ []) rest in
     grind (arith, word_after before word rest, on, append_assoc before (word ∷ []) rest, length-append before (word ∷ []))
 
-pub read_all : (words : List ℕ) → map (word_at words) (range_with_len 0 (length words)) ≡ map Some words
+pub read_each : (words : List ℕ) → map (word_at words) (range_with_len 0 (length words)) ≡ map Some words
+read_each words = each_on [] words
+
+-- what gives an item each time gives all of them
+all_kept : {B C : Type 0} (h : B → Option C) (ys : List B) (zs : List C) → map h ys ≡ map Some zs → filter_map h ys ≡ zs
+all_kept h [] [] e = refl
+all_kept h [] (z ∷ zs) e = absurd (some_item (Some z) (map Some zs) (sym e))
+all_kept h (y ∷ ys) [] e = absurd (some_item (h y) (map h ys) e)
+all_kept h (y ∷ ys) (z ∷ zs) e =
+    let first : h y ≡ Some z = ap (head (Some z)) e in
+    let rest : map h ys ≡ map Some zs = ap tail e in
+    rw first (ap (λ l. z ∷ l) (all_kept h ys zs rest))
+
+-- reading on from a place gives the words from there on
+read_on : (before rest : List ℕ) → filter_map (word_at (before ++ rest)) (range_with_len (length before) (length rest)) ≡ rest
+read_on before rest = all_kept (word_at (before ++ rest)) (range_with_len (length before) (length rest)) rest (each_on before rest)
+
+pub read_all : (words : List ℕ) → filter_map (word_at words) (range_with_len 0 (length words)) ≡ words
 read_all words = read_on [] words

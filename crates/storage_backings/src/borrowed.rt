@@ -1,52 +1,42 @@
-ghost use Rattle.std.specs.Prelude.{◌≡◌, ℕ, ◌+◌, List, [], ◌∷◌, ◌++◌, if◌then◌else◌, Some, None, length, drop, slice_set};
+ghost use Rattle.std.specs.Prelude.{◌≡◌, ℕ, List, ◌∷◌, length, drop, slice_set};
 ghost use Rattle.dynamic_storage.specs.Meaning.{inside, word_at};
 ghost use Rattle.dynamic_storage.specs.Codes.{stated_at, fixed_code};
 
 use dynamic_storage::{Condition, DynamicStorage, Stage};
 
-/// What a slice is made of that holds a list of words, whose length never changes.
+/// Memory as a list of words whose length never changes.
 ///
-/// `all_words` is what the slice holds, and `rest` what belongs to no word; no call may change the rest.
-pub trait WordMemory: Sized {
-    ghost all_words: { List Self → List ℕ };
+/// `all_words` is what it holds, and `rest` what no call may change: what belongs to no word, and which memory it is.
+pub trait WordMemory {
+    ghost all_words: { Self → List ℕ };
 
-    ghost rest: { List Self → List (List ℕ) };
+    ghost rest: { Self → List (List ℕ) };
 
     /// How many words there are.
-    fn count(memory: &[Self]) -> usize
-        ensures { result ≡ length (all_words memory.now) };
+    fn count(&self) -> usize
+        ensures { result ≡ length (all_words self.now) };
 
     /// The word at an index, if there is one.
-    fn load(memory: &[Self], index: usize) -> Option<u64>
-        ensures { result ≡ word_at (all_words memory.now) index };
+    fn load(&self, index: usize) -> Option<u64>
+        ensures { result ≡ word_at (all_words self.now) index };
 
     /// Replaces the word at an index, and answers whether there is one.
-    fn store(memory: &mut [Self], index: usize, word: u64) -> bool
-        ensures answer { result ≡ inside (all_words memory.old) index }
-        ensures words { all_words memory.new ≡ slice_set (all_words memory.old) index word }
-        ensures rest { rest memory.new ≡ rest memory.old };
+    fn store(&mut self, index: usize, word: u64) -> bool
+        ensures answer { result ≡ inside (all_words self.old) index }
+        ensures words { all_words self.new ≡ slice_set (all_words self.old) index word }
+        ensures rest { rest self.new ≡ rest self.old };
 }
 
 /// A storage in memory that somebody lends: the first word is the code of the condition, and the storage's words follow
-/// it.
-// A slice, and not any memory: of a type parameter `drop` could not say what it leaves behind the loan.
-pub struct Borrowed<'a, T> {
-    memory: &'a mut [T],
+/// it. Dropping it drops the loan alone, so the lender finds in its memory what the storage held last.
+#[derive(Drop)]
+pub struct Borrowed<M> {
+    memory: M,
 }
 
-// The lender finds in its memory what the storage held last.
-impl<T> Drop for Borrowed<'_, T> {
-    fn drop(self)
-        ensures { self.exit.0.now ≡ self.entry.memory.now }
-    {
-        let Self { memory: _ } = self;
-    }
-}
-
-impl<'a, T: WordMemory> Borrowed<'a, T> {
-    pub fn new(memory: &'a mut [T]) -> Borrowed<'a, T>
-        ensures memory { result.memory.now ≡ memory.old }
-        ensures lent { result.memory.ghost_name ≡ memory.entry.ghost_name }
+impl<M: WordMemory> Borrowed<M> {
+    pub fn new(memory: M) -> Borrowed<M>
+        ensures { result.memory ≡ memory }
     {
         Borrowed { memory }
     }
@@ -54,63 +44,52 @@ impl<'a, T: WordMemory> Borrowed<'a, T> {
     /// Replaces the code of the condition, whatever it states, and answers whether there is one. This is for tools that
     /// spoil or mend memory: no part of a connection calls it.
     pub fn write_code(&mut self, code: u64) -> bool
-        ensures answer { result ≡ inside (T.WordMemory.all_words self.old.memory.now) 0 }
-        ensures words { T.WordMemory.all_words self.new.memory.now ≡ slice_set (T.WordMemory.all_words self.old.memory.now) 0 code }
-        ensures rest { T.WordMemory.rest self.new.memory.now ≡ T.WordMemory.rest self.old.memory.now }
-        ensures lent { self.new.memory.ghost_name ≡ self.old.memory.ghost_name }
+        ensures answer { result ≡ inside (M.WordMemory.all_words self.old.memory) 0 }
+        ensures words { M.WordMemory.all_words self.new.memory ≡ slice_set (M.WordMemory.all_words self.old.memory) 0 code }
+        ensures rest { M.WordMemory.rest self.new.memory ≡ M.WordMemory.rest self.old.memory }
     {
-        T::store(self.memory, 0, code)
-    }
-
-    /// Where in the memory the storage's word at a place stands, if there is one: the code is before it.
-    fn index_of(&self, place: u64) -> Option<usize>
-        ensures { result ≡ (if inside (drop 1 (T.WordMemory.all_words self.now.memory.now)) place then Some (place + 1) else None) }
-    {
-        let count = T::count(self.memory) as u64;
-        let index = place.checked_add(1)?;
-        (index < count).then_some(index as usize)
+        self.memory.store(0, code)
     }
 }
 
-impl<T> Borrowed<'_, T> {
+impl<T> Borrowed<&mut [T]> {
     /// Ends the loan: the lender finds in its memory what the storage held last.
     pub fn hand_back(self)
         ensures { self.exit.0.now ≡ self.entry.memory.now }
-    {
-        let Borrowed { memory: _ } = self;
-    }
+    {}
 }
 
 // Asking for and setting the condition are a line each, as in a window, whose code is a word of a storage.
 
-impl<T: WordMemory> DynamicStorage for Borrowed<'_, T> {
-    ghost condition = { λ s. stated_at (T.WordMemory.all_words s.memory.now) 0 };
+impl<M: WordMemory> DynamicStorage for Borrowed<M> {
+    ghost condition = { λ s. stated_at (M.WordMemory.all_words s.memory) 0 };
 
-    ghost words = { λ s. drop 1 (T.WordMemory.all_words s.memory.now) };
+    ghost words = { λ s. drop 1 (M.WordMemory.all_words s.memory) };
 
-    ghost outside = { λ s. fixed_code (T.WordMemory.all_words s.memory.now) 0 ∷ (T.WordMemory.rest s.memory.now ++ ((s.memory.ghost_name ∷ []) ∷ [])) };
+    ghost outside = { λ s. fixed_code (M.WordMemory.all_words s.memory) 0 ∷ M.WordMemory.rest s.memory };
 
     fn condition(&self) -> Condition {
-        let code = T::load(self.memory, 0);
+        let code = self.memory.load(0);
         code.map_or(Condition::Broken, Condition::from)
     }
 
     fn len(&self) -> u64 {
-        T::count(self.memory).saturating_sub(1) as u64
+        self.memory.count().saturating_sub(1) as u64
     }
 
     fn read(&self, place: u64) -> Option<u64> {
-        T::load(self.memory, self.index_of(place)?)
+        if place < self.len() {
+            self.memory.load(1 + place as usize)
+        } else {
+            None
+        }
     }
 
     fn write(&mut self, place: u64, word: u64) -> bool {
-        let Some(index) = self.index_of(place) else {
-            return false;
-        };
-        T::store(self.memory, index, word)
+        place < self.len() && self.memory.store(1 + place as usize, word)
     }
 
     fn set_condition(&mut self, to: Stage) -> bool {
-        self.condition().is_settable() && T::store(self.memory, 0, to.into())
+        self.condition().is_settable() && self.memory.store(0, to.into())
     }
 }

@@ -3,10 +3,11 @@
 ghost use Rattle.std.specs.Prelude.{[], ◌∷◌};
 ghost use Rattle.storage_backings.specs.Bytes.{words_in, odd_bytes};
 
-use crate::borrowed::{Borrowed, WordMemory};
+use crate::borrowed::WordMemory;
+use crate::borrowed_slice::{BorrowedSlice, WordElement};
 
 /// Eight bytes to a word, the lowest first. Odd bytes at the end belong to no word.
-impl WordMemory for u8 {
+impl WordElement for u8 {
     ghost all_words = { words_in };
 
     ghost rest = { λ m. odd_bytes m ∷ [] };
@@ -30,5 +31,24 @@ impl WordMemory for u8 {
     }
 }
 
+/// The words of `u8`, in bytes that somebody lends.
+impl WordMemory for &mut [u8] {
+    ghost all_words = { λ m. words_in m.now };
+
+    ghost rest = { λ m. odd_bytes m.now ∷ (m.ghost_name ∷ []) ∷ [] };
+
+    fn count(&self) -> usize {
+        u8::count(self)
+    }
+
+    fn load(&self, index: usize) -> Option<u64> {
+        u8::load(self, index)
+    }
+
+    fn store(&mut self, index: usize, word: u64) -> bool {
+        u8::store(self, index, word)
+    }
+}
+
 /// A storage in borrowed bytes.
-pub type BorrowedBytes<'a> = Borrowed<'a, u8>;
+pub type BorrowedBytes<'a> = BorrowedSlice<'a, u8>;

@@ -1,8 +1,9 @@
-ghost use Rattle.std.specs.Prelude.{[]};
+ghost use Rattle.std.specs.Prelude.{[], ◌∷◌};
 
-use crate::borrowed::{Borrowed, WordMemory};
+use crate::borrowed::WordMemory;
+use crate::borrowed_slice::{BorrowedSlice, WordElement};
 
-impl WordMemory for u64 {
+impl WordElement for u64 {
     ghost all_words = { λ m. m };
 
     ghost rest = { λ _. [] };
@@ -25,5 +26,23 @@ impl WordMemory for u64 {
     }
 }
 
+impl WordMemory for &mut [u64] {
+    ghost all_words = { λ m. m.now };
+
+    ghost rest = { λ m. (m.ghost_name ∷ []) ∷ [] };
+
+    fn count(&self) -> usize {
+        u64::count(self)
+    }
+
+    fn load(&self, index: usize) -> Option<u64> {
+        u64::load(self, index)
+    }
+
+    fn store(&mut self, index: usize, word: u64) -> bool {
+        u64::store(self, index, word)
+    }
+}
+
 /// A storage in borrowed words.
-pub type BorrowedWords<'a> = Borrowed<'a, u64>;
+pub type BorrowedWords<'a> = BorrowedSlice<'a, u64>;

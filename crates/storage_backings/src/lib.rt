@@ -3,10 +3,12 @@
 
 mod borrowed;
 mod borrowed_bytes;
+mod borrowed_slice;
 mod borrowed_words;
 mod process_local;
 
 pub use borrowed::{Borrowed, WordMemory};
 pub use borrowed_bytes::BorrowedBytes;
+pub use borrowed_slice::{BorrowedSlice, WordElement};
 pub use borrowed_words::BorrowedWords;
 pub use process_local::ProcessLocal;

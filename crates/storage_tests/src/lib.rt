@@ -6,6 +6,8 @@ mod edges;
 #[cfg(test)]
 mod images;
 #[cfg(test)]
+mod memories;
+#[cfg(test)]
 mod scripts;
 mod stamping;
 

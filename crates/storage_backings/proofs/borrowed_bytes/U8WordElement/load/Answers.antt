@@ -1,7 +1,7 @@
 use Rattle.std.proofs.Common.{◌<◌, ◌/◌, length, arith}
 use Rattle.std.proofs.lemmas.Bool.Decides.{nat_tests}
 use Rattle.storage_backings.proofs.Bytes.{length_words, chunk_word}
-use Rattle.storage_backings.proofs.borrowed_bytes.U8WordMemory.load.Goals as goal
+use Rattle.storage_backings.proofs.borrowed_bytes.U8WordElement.load.Goals as goal
 
 pub returns : goal.returns
 returns c =

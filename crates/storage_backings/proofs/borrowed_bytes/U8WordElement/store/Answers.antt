@@ -1,7 +1,7 @@
 use Rattle.std.proofs.Common.{[], ◌∷◌, ap, ◌∙◌, arith, rules, tests}
 use Rattle.std.specs.Int.{w64, to_le_bytes}
 use Rattle.storage_backings.proofs.Bytes.{words_put, odd_put}
-use Rattle.storage_backings.proofs.borrowed_bytes.U8WordMemory.store.Goals as goal
+use Rattle.storage_backings.proofs.borrowed_bytes.U8WordElement.store.Goals as goal
 
 pub returns-clause-words : goal.returns-clause-words
 returns-clause-words c =
