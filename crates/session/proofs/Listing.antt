@@ -79,7 +79,7 @@ each_on before (word ∷ rest) =
 pub read_each : (words : List ℕ) → map (word_at words) (range_with_len 0 (length words)) ≡ map Some words
 read_each words = each_on [] words
 
--- what gives an item each time gives all of them
+-- filter_map keeps all where each item gives one
 all_kept : {B C : Type 0} (h : B → Option C) (ys : List B) (zs : List C) → map h ys ≡ map Some zs → filter_map h ys ≡ zs
 all_kept h [] [] e = refl
 all_kept h [] (z ∷ zs) e = absurd (some_item (Some z) (map Some zs) (sym e))

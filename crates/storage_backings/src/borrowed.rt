@@ -27,8 +27,9 @@ pub trait WordMemory {
         ensures rest { rest self.new ≡ rest self.old };
 }
 
-/// A storage in memory that somebody lends: the first word is the code of the condition, and the storage's words follow
-/// it. Dropping it drops the loan alone, so the lender finds in its memory what the storage held last.
+/// A storage in any memory: the first word is the code of the condition, and the storage's words follow it. Dropping it
+/// drops the memory; where that is a loan, the lender finds in it what the storage held last.
+// Beside `BorrowedSlice`, whose `drop` says so in its contract, since memory may be no slice.
 #[derive(Drop)]
 pub struct Borrowed<M> {
     memory: M,

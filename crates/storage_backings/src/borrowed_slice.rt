@@ -27,7 +27,7 @@ pub trait WordElement: Sized {
         ensures rest { rest memory.new ≡ rest memory.old };
 }
 
-/// A storage in memory that somebody lends: the first word is the code of the condition, and the storage's words follow
+/// A storage in a slice that somebody lends: the first word is the code of the condition, and the storage's words follow
 /// it.
 // A slice, and not any memory: of a type parameter `drop` could not say what it leaves behind the loan.
 pub struct BorrowedSlice<'a, T> {

@@ -1,4 +1,4 @@
-//! The memory that a storage can stand in: borrowed words, borrowed bytes, or an array inside.
+//! The memory that a storage can stand in: borrowed words, borrowed bytes, any memory that holds words, or an array inside.
 #![tactic(auto)]
 
 mod borrowed;

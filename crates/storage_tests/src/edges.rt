@@ -1,7 +1,7 @@
 use dynamic_storage::{Condition, DynamicStorage, Stage};
 use shm_allocator::{PointerOffset, SegmentId};
 use std::process::Abort;
-use storage_backings::{BorrowedBytes, BorrowedWords};
+use storage_backings::{Borrowed, BorrowedBytes, BorrowedWords};
 use storage_layers::Window;
 
 // Broken, empty, and not to be changed.
@@ -32,6 +32,17 @@ fn less_than_a_word(rt: HostRuntime) {
     let mut seven = [2u8, 0, 0, 0, 0, 0, 0];
     is_nothing(&rt, &mut BorrowedBytes::new(&mut seven));
     assert_eq!(rt; one, [2]);
+    assert_eq!(rt; seven, [2, 0, 0, 0, 0, 0, 0]);
+}
+
+#[test]
+fn memory_without_words(rt: HostRuntime) {
+    let mut words: [u64; 0] = [];
+    is_nothing(&rt, &mut Borrowed::new(&mut words[..]));
+    assert!(rt; !Borrowed::new(&mut words[..]).write_code(2));
+    let mut seven = [2u8, 0, 0, 0, 0, 0, 0];
+    is_nothing(&rt, &mut Borrowed::new(&mut seven[..]));
+    assert!(rt; !Borrowed::new(&mut seven[..]).write_code(3));
     assert_eq!(rt; seven, [2, 0, 0, 0, 0, 0, 0]);
 }
 
