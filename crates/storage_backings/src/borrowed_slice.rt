@@ -47,6 +47,7 @@ impl<'a, T: WordElement> BorrowedSlice<'a, T> {
     pub fn new(memory: &'a mut [T]) -> BorrowedSlice<'a, T>
         ensures memory { result.memory.now ≡ memory.old }
         ensures lent { result.memory.ghost_name ≡ memory.entry.ghost_name }
+        ensures same { result.memory ≡ memory.entry }
     {
         BorrowedSlice { memory }
     }
