@@ -7,6 +7,7 @@ use dynamic_storage::{Condition, DynamicStorage, Stage};
 /// Memory as a list of words whose length never changes.
 ///
 /// `all_words` is what it holds, and `rest` what no call may change: what belongs to no word, and which memory it is.
+// Beside `WordElement`, since memory may be no slice.
 pub trait WordMemory {
     ghost all_words: { Self → List ℕ };
 

@@ -26,6 +26,7 @@ impl WordElement for u64 {
     }
 }
 
+// An impl for each kind of loan: each names its words and its rest without those of the element.
 impl WordMemory for &mut [u64] {
     ghost all_words = { λ m. m.now };
 
